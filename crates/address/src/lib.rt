@@ -1,0 +1,139 @@
+ghost use mathlib.Core.Path.{_≡_};
+ghost use Prim.Native.Nat.{_+_, _<_, _^_};
+ghost use Rattle.address.specs.Addresses.{slotOf, globalOf, pageOf, nameOf, physicalLineOf, frameOfPhysical, regionOf, physicalOf, entryOf, isKernels, attachable, ordinaryPage};
+
+// An address as a process brings it: 32 bits.
+pub struct Effective(pub u32);
+
+// An address in the one space that all processes share: 44 bits.
+pub struct Global(pub u64);
+
+// An address in memory: 32 bits.
+pub struct Physical(pub u32);
+
+// What a global address reaches.
+pub enum Region {
+    Uncached,
+    Cached,
+    PageTable,
+    Ordinary,
+}
+
+const SEGMENT_BYTES: u32 = 4194304;
+
+const PAGE_BYTES: u64 = 4096;
+
+const LINE_BYTES: u64 = 16;
+
+const PREFIX_BYTES: u64 = 4294967296;
+
+const KERNEL_START: u32 = 2147483648;
+
+const TABLE_BYTES: u64 = 17179869184;
+
+const TABLE_INDEX: u64 = 1023;
+
+const FIRST_SEGMENT: u64 = 2048;
+
+const LAST_SEGMENT: u64 = 4190207;
+
+const FIRST_PAGE: u64 = 2097152;
+
+const LAST_PAGE: u64 = 4290772991;
+
+impl Effective {
+    // The slot that the address goes through.
+    pub fn slot(self) -> usize
+        ensures { λ r. ⌜ r ≡ slotOf self ⌝ }
+    {
+        (self.0 / SEGMENT_BYTES) as usize
+    }
+
+    // The address in a segment: the translation.
+    pub fn in_segment(self, segment: u64) -> Global
+        requires { ⌜ segment < 2 ^ 22 ⌝ }
+        ensures { λ r. ⌜ r ≡ globalOf segment self ⌝ }
+    {
+        Global(segment * SEGMENT_BYTES as u64 + (self.0 % SEGMENT_BYTES) as u64)
+    }
+
+    // The address is the kernel's and not the users'.
+    pub fn is_kernels(self) -> bool
+        ensures { λ r. ⌜ r ≡ isKernels self ⌝ }
+    {
+        KERNEL_START <= self.0
+    }
+}
+
+impl Global {
+    pub fn page(self) -> u64
+        ensures { λ r. ⌜ r ≡ pageOf self ⌝ }
+    {
+        self.0 / PAGE_BYTES
+    }
+
+    // The name of the line that the address lies in.
+    pub fn name(self) -> u64
+        ensures { λ r. ⌜ r ≡ nameOf self ⌝ }
+    {
+        self.0 / LINE_BYTES
+    }
+
+    pub fn region(self) -> Region
+        ensures { λ r. ⌜ r ≡ regionOf self ⌝ }
+    {
+        let prefix = self.0 / PREFIX_BYTES;
+        if prefix == 0 {
+            return Region::Uncached;
+        }
+        if prefix == 1 {
+            return Region::Cached;
+        }
+        if self.0 / TABLE_BYTES == TABLE_INDEX {
+            return Region::PageTable;
+        }
+        Region::Ordinary
+    }
+
+    // The memory address below prefixes 0 and 1.
+    pub fn physical(self) -> Physical
+        ensures { λ r. ⌜ r ≡ physicalOf self ⌝ }
+    {
+        Physical((self.0 % PREFIX_BYTES) as u32)
+    }
+}
+
+impl Physical {
+    pub fn line(self) -> usize
+        ensures { λ r. ⌜ r ≡ physicalLineOf self ⌝ }
+    {
+        (self.0 / 16) as usize
+    }
+
+    pub fn frame(self) -> usize
+        ensures { λ r. ⌜ r ≡ frameOfPhysical self ⌝ }
+    {
+        (self.0 / 4096) as usize
+    }
+}
+
+// Where the page table entry of a page stands.
+pub fn entry_of(page: u32) -> Global
+    ensures { λ r. ⌜ r ≡ entryOf page ⌝ }
+{
+    Global(TABLE_INDEX * TABLE_BYTES + 4 * page as u64)
+}
+
+// A segment that may be attached.
+pub fn attachable_segment(segment: u64) -> bool
+    ensures { λ r. ⌜ r ≡ attachable segment ⌝ }
+{
+    (FIRST_SEGMENT <= segment) & (segment <= LAST_SEGMENT)
+}
+
+// A page that may be mapped.
+pub fn ordinary_page(page: u64) -> bool
+    ensures { λ r. ⌜ r ≡ ordinaryPage page ⌝ }
+{
+    (FIRST_PAGE <= page) & (page <= LAST_PAGE)
+}

@@ -1,0 +1,93 @@
+-- What the shape check says, fact by fact.
+use Prim.Native.Nat.{ℕ, _*_, _≤_}
+use mathlib.Core.Path.{_≡_, _∙_, sym}
+use mathlib.Core.Bool.{Bool, true, false}
+use lib.Dec.{leb, eqb}
+use lib.Count.{ones}
+use borrow.Author.Tests.{leb-true, eqb-true}
+use Rattle.address.specs.Layout.{pageBytes, lineBytes, processSlots}
+use Rattle.board.specs.Shapes.{maxFrames, maxProcesses, maxLines, recordWords, limitsHold, lengthsAgree, fitsShape}
+use Rattle.board.specs.declared.Shape.{Shape}
+use Rattle.board.proofs.Bools.{and-left, and-right}
+
+pub record Shaped (s : Shape) (slots words records cache memory : ℕ) : Type 0 where
+  pub frames-low : 1 ≤ s .frames
+  pub frames-max : s .frames ≤ maxFrames
+  pub uncached-max : s .uncached ≤ s .frames
+  pub processes-max : s .processes ≤ maxProcesses
+  pub lines-max : s .lines ≤ maxLines
+  pub one : ones (s .lines) ≡ 1
+  pub slots-are : slots ≡ s .processes * processSlots
+  pub words-are : words ≡ s .frames
+  pub records-are : records ≡ recordWords * s .lines
+  pub cache-is : cache ≡ lineBytes * s .lines
+  pub memory-is : memory ≡ pageBytes * s .frames
+
+-- the limits, before the lengths are known
+pub record Limited (s : Shape) : Type 0 where
+  pub frames-low : 1 ≤ s .frames
+  pub frames-max : s .frames ≤ maxFrames
+  pub uncached-max : s .uncached ≤ s .frames
+  pub processes-max : s .processes ≤ maxProcesses
+  pub lines-max : s .lines ≤ maxLines
+  pub one : ones (s .lines) ≡ 1
+
+pub limited : (s : Shape) → limitsHold s ≡ true → Limited s
+limited s a₁ =
+    let a₂ = and-right (leb 1 (s .frames)) _ a₁ in
+    let a₃ = and-right (leb (s .frames) maxFrames) _ a₂ in
+    let a₄ = and-right (leb (s .uncached) (s .frames)) _ a₃ in
+    let a₅ = and-right (leb 1 (s .processes)) _ a₄ in
+    let a₆ = and-right (leb (s .processes) maxProcesses) _ a₅ in
+    record {
+      frames-low = leb-true _ _ (and-left (leb 1 (s .frames)) _ a₁);
+      frames-max = leb-true _ _ (and-left (leb (s .frames) maxFrames) _ a₂);
+      uncached-max = leb-true _ _ (and-left (leb (s .uncached) (s .frames)) _ a₃);
+      processes-max = leb-true _ _ (and-left (leb (s .processes) maxProcesses) _ a₅);
+      lines-max = leb-true _ _ (and-left (leb (s .lines) maxLines) _ a₆);
+      one = eqb-true _ _ (and-right (leb (s .lines) maxLines) _ a₆);
+    }
+
+pub shaped : (s : Shape) (slots words records cache memory : ℕ) (t : Bool) → t ≡ fitsShape s slots words records cache memory → t ≡ true
+    → Shaped s slots words records cache memory
+unfolding fitsShape
+shaped s slots words records cache memory t f h =
+    let a = sym f ∙ h in
+    let m = limited s (and-left (limitsHold s) _ a) in
+    let a₁ = and-right (limitsHold s) (lengthsAgree s slots words records cache memory) a in
+    let a₂ = and-right (eqb slots (s .processes * processSlots)) _ a₁ in
+    let a₃ = and-right (eqb words (s .frames)) _ a₂ in
+    let a₄ = and-right (eqb records (recordWords * s .lines)) _ a₃ in
+    record {
+      frames-low = m .frames-low;
+      frames-max = m .frames-max;
+      uncached-max = m .uncached-max;
+      processes-max = m .processes-max;
+      lines-max = m .lines-max;
+      one = m .one;
+      slots-are = eqb-true _ _ (and-left (eqb slots (s .processes * processSlots)) _ a₁);
+      words-are = eqb-true _ _ (and-left (eqb words (s .frames)) _ a₂);
+      records-are = eqb-true _ _ (and-left (eqb records (recordWords * s .lines)) _ a₃);
+      cache-is = eqb-true _ _ (and-left (eqb cache (lineBytes * s .lines)) _ a₄);
+      memory-is = eqb-true _ _ (and-right (eqb cache (lineBytes * s .lines)) _ a₄);
+    }
+
+-- the two ends of the check
+module _ (s : Shape) (slots words records cache memory : ℕ) (t : Bool) (f : t ≡ limitsHold s) where
+  pub fits-lengths : (r : Bool) → t ≡ true → r ≡ lengthsAgree s slots words records cache memory → r ≡ fitsShape s slots words records cache memory
+  unfolding fitsShape
+  fits-lengths r h e = rw (← f, h, e)
+
+  pub fits-not : t ≡ false → false ≡ fitsShape s slots words records cache memory
+  unfolding fitsShape
+  fits-not h = rw (← f, h)
+
+module _ (s : Shape) (t : Bool) (f : t ≡ limitsHold s) (h : t ≡ true) where
+  pub limits-frames : s .frames ≤ maxFrames
+  limits-frames = limited s (sym f ∙ h) .frames-max
+
+  pub limits-processes : s .processes ≤ maxProcesses
+  limits-processes = limited s (sym f ∙ h) .processes-max
+
+  pub limits-lines : s .lines ≤ maxLines
+  limits-lines = limited s (sym f ∙ h) .lines-max

@@ -1,0 +1,6 @@
+pub mod OneBit
+pub mod Bytes
+pub mod Records
+pub mod Stores
+pub mod Reach
+pub mod Visits

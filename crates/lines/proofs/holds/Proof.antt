@@ -1,0 +1,11 @@
+-- `holds` tests the place by `place_of`.
+use Rattle.lines.proofs.Stores.{holds-by}
+use borrow.Author.Needs.{needs}
+use Rattle.lines.proofs.holds.Statement.{statement}
+use Rattle.lines.proofs.holds.Tie as tie
+
+pub holds-spec : {M : Type 1} → statement M
+holds-spec =
+    tie.close (tie.spec
+    (search needs) (search needs)
+    (λ c. search (needs, holds-by)))

@@ -1,0 +1,19 @@
+-- P1 to P12 of 01 hold of the definitions.
+use mathlib.Core.Path.{refl}
+use Rattle.address.specs.Addresses.{regionOf}
+use Rattle.board.specs.Lists.{part, splice}
+use Rattle.board.specs.Shapes.{fitsShape}
+use Rattle.board.specs.Pages.{lowestFrom, lowestFrame, mappedTo, freeFrame, directHome, homeBy, homeOf}
+use Rattle.lines.specs.Bytes.{number, digits, stored, lineOf, withLine}
+use Rattle.lines.specs.Records.{lineAt, putLine}
+use Rattle.lines.specs.Stores.{holdsLine, holdsAt, holderFrom, holderOf, writtenBack, filled, noted, inserted, performedAt}
+use Rattle.lines.specs.Reach.{wayByHome, wayBy, wayOf, unreached, mayWrite}
+use lib.Count.{ones, onesIn}
+use Rattle.machine.specs.Refusals.{byTable, alignedTo}
+use Rattle.machine.specs.Accesses.{performedOn, accessedBy, accessed, userTable, userAccess}
+use Rattle.machine.specs.Calls.{attach}
+use Rattle.machine.specs.Numbers.{numbersToCheck, all, NumbersHold}
+
+pub numbers-hold : NumbersHold
+unfolding regionOf part splice fitsShape lowestFrom lowestFrame mappedTo freeFrame directHome homeBy homeOf number digits stored lineOf withLine lineAt putLine holdsLine holdsAt holderFrom holderOf writtenBack filled noted inserted performedAt wayByHome wayBy wayOf unreached mayWrite ones onesIn byTable alignedTo performedOn accessedBy accessed userTable userAccess attach numbersToCheck all
+numbers-hold = refl

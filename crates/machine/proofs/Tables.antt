@@ -1,0 +1,42 @@
+-- Laws of refusal tables: one after another, what a passed table says, and how an outcome is carried through a table.
+use Prim.Native.Nat.{ℕ, suc, zero}
+use mathlib.Core.Path.{_≡_, _∙_, refl, sym, ap}
+use mathlib.Core.Bool.{Bool, true, false, not, cond}
+use mathlib.Core.List.{List, [], _∷_, _++_}
+use native.Mathlib.Omega.{arith}
+use Rattle.machine.specs.Refusals.{Row, row, byTable}
+
+module _ {A : Type 0} (refuse : ℕ → A) where
+  -- a table that goes on in another
+  pub table-append : (xs ys : List Row) (done : A) → byTable refuse (xs ++ ys) done ≡ byTable refuse xs (byTable refuse ys done)
+  unfolding byTable
+  table-append [] ys done = refl
+  table-append (x ∷ xs) ys done = ap (cond (x .applies) (refuse (x .number))) (table-append xs ys done)
+
+-- an outcome carried through a table
+pub table-map : {A B : Type 0} (f : A → B) (refuse : ℕ → A) (rows : List Row) (done : A)
+    → f (byTable refuse rows done) ≡ byTable (λ n. f (refuse n)) rows (f done)
+unfolding byTable
+table-map f refuse [] done = refl
+table-map f refuse (r ∷ rows) done = go (r .applies) (table-map f refuse rows done)
+  where
+    go : (t : Bool) → f (byTable refuse rows done) ≡ byTable (λ n. f (refuse n)) rows (f done)
+        → f (cond t (refuse (r .number)) (byTable refuse rows done)) ≡ cond t (f (refuse (r .number))) (byTable (λ n. f (refuse n)) rows (f done))
+    go true e = refl
+    go false e = e
+
+-- a table with no rows refuses nothing
+pub table-end : {A : Type 0} (refuse : ℕ → A) (done x : A) → byTable refuse [] done ≡ x → done ≡ x
+unfolding byTable
+table-end refuse done x e = e
+
+-- where a table ended in something else than a row's refusal, that row did not apply
+module _ {A : Type 0} (refuse : ℕ → A) (n : ℕ) where
+  cond-passed : (t : Bool) (rest x : A) → (refuse n ≡ x → ⊥) → cond t (refuse n) rest ≡ x → (t ≡ false) × (rest ≡ x)
+  cond-passed true rest x other e = absurd (other e)
+  cond-passed false rest x other e = (refl, e)
+
+  pub table-passed : (t : Bool) (rows : List Row) (done x : A) → (refuse n ≡ x → ⊥) → byTable refuse (row n t ∷ rows) done ≡ x
+      → (t ≡ false) × (byTable refuse rows done ≡ x)
+  unfolding byTable
+  table-passed t rows done x other e = cond-passed t (byTable refuse rows done) x other e

@@ -1,0 +1,121 @@
+-- 01, "Calls": user access and supervisor access.
+use Prim.Native.Nat.{ℕ, _%_}
+use mathlib.Core.Bool.{Bool, not, _&&_, cond}
+use mathlib.Core.List.{List, [], _∷_, _++_}
+use lib.ListN.{getD}
+use Rattle.address.specs.Layout.{lineBytes}
+use Rattle.address.specs.Addresses.{slotOf, globalOf, nameOf, regionOf, physicalOf, frameOfPhysical, isKernels}
+use Rattle.address.specs.declared.Effective.{Effective}
+use Rattle.address.specs.declared.Global.{Global}
+use Rattle.address.specs.declared.Physical.{Physical}
+use Rattle.address.specs.declared.Region.{Region}
+use Rattle.address.specs.declared.Region.the-variants.{Uncached, Cached, PageTable, Ordinary}
+use Rattle.board.specs.Answers.{answer}
+use Rattle.board.specs.Slots.{slotIndex, slotSegment}
+use Rattle.board.specs.declared.Shape.{Shape}
+use Rattle.board.specs.declared.Pending.{Pending}
+use Rattle.board.specs.declared.Answer.{Answer}
+use Rattle.lines.specs.Bytes.{number, stored}
+use Rattle.lines.specs.Stores.{Store, store, placeOf, inserted, Performed, performedAt}
+use Rattle.lines.specs.Reach.{wayOf, unreached}
+use Rattle.lines.specs.declared.Access.{Access}
+use Rattle.lines.specs.declared.Way.{Way}
+use Rattle.lines.specs.declared.Way.the-variants.{Held, InMemory, Missing}
+use Rattle.machine.specs.Boards.{ways, Board, Outcome, outcome, refused, withStore}
+use Rattle.machine.specs.Refusals.{Row, row, byTable, row1, isProcess, isGlobal, alignedTo, slotRows, lineRows, wordInUse, isOrdinary, isCached, outside}
+
+-- ---- an access to a line
+
+-- what an access gives, and the store after
+pub record Reached : Type 0 where
+  pub answer : Answer
+  pub after : Store
+
+abbrev pub reached : Answer → List ℕ → List ℕ → List ℕ → Reached
+reached a records cache memory = record { answer = a; after = store records cache memory }
+
+abbrev pub stopped : Store → ℕ → Reached
+stopped b n = record { answer = answer n 0 0; after = b }
+
+-- a load or a store that is done on a line now held, and its mark
+abbrev pub reachedBy : Performed → List ℕ → ℕ → Reached
+reachedBy p memory mark = reached (answer 0 (p .value) mark) (p .records) (p .cache) memory
+
+unfoldable pub performedOn : ℕ → ℕ → Access → ℕ → Store → Reached
+performedOn i offset a mark b = reachedBy (performedAt i offset a (b .records) (b .cache)) (b .memory) mark
+
+-- a held line is used as it is, mark 1; else the line is filled at its place with the page's present permission, mark 0.
+-- (A line that is nowhere has been refused by row 8, so the last clause is never asked.)
+unfoldable pub accessedBy : Shape → ℕ → ℕ → Access → Store → Way → Reached
+accessedBy s name offset a b (Held i write) = performedOn i offset a 1 b
+accessedBy s name offset a b (InMemory line write) =
+    performedOn (placeOf ways s name) offset a 0 (inserted ways s (placeOf ways s name) name line write b)
+accessedBy s name offset a b Missing = stopped b 8
+
+-- the way to the line of a global address
+abbrev pub wayTo : Shape → List ℕ → List ℕ → Global → Way
+wayTo s words records g = wayOf ways s words records (nameOf g)
+
+unfoldable pub accessed : Shape → List ℕ → Global → Access → Store → Reached
+accessed s words g a b = accessedBy s (nameOf g) (g .0 % lineBytes) a b (wayTo s words (b .records) g)
+
+-- a reached line's outcome, on the whole board
+abbrev pub onBoard : Board → Reached → Outcome
+onBoard b r = outcome (r .answer) (withStore b (r .after))
+
+-- ---- user access (process, load or store, width, effective address, value)
+
+-- the slot word that an effective address goes through
+abbrev pub slotWordAt : List ℕ → ℕ → Effective → ℕ
+slotWordAt slots process e = getD slots (slotIndex process (slotOf e)) 0
+
+-- the global address
+abbrev pub userGlobal : List ℕ → ℕ → Effective → Global
+userGlobal slots process e = globalOf (slotSegment (slotWordAt slots process e)) e
+
+-- numbers 2 to 7
+abbrev pub userRows : Shape → List ℕ → Pending → ℕ → Access → Effective → List Row
+userRows s slots tag process a e =
+    row 2 (not (isProcess s process)) ∷ row 3 (tag .set) ∷ row 4 (not (alignedTo (a .width) (e .0))) ∷ row 5 (isKernels e)
+    ∷ slotRows (slotWordAt slots process e) a
+
+unfoldable pub userTable : Shape → Board → ℕ → Access → Effective → List Row
+userTable s b process a e =
+    row1 s b ∷ (userRows s (b .slots) (b .tag) process a e
+    ++ lineRows a (wayTo s (b .words) (b .store .records) (userGlobal (b .slots) process e)))
+
+unfoldable pub userAccess : Shape → Board → ℕ → Access → Effective → Outcome
+userAccess s b process a e =
+    byTable (refused b) (userTable s b process a e)
+    (onBoard b (accessed s (b .words) (userGlobal (b .slots) process e) a (b .store)))
+
+-- ---- supervisor access (load or store, width, global address, value)
+
+-- the frame of an address under prefix 0 or 1
+abbrev pub frameUnder : Global → ℕ
+frameUnder g = frameOfPhysical (physicalOf g)
+
+unfoldable pub supervisorTable : Shape → Board → Access → Global → List Row
+supervisorTable s b a g =
+    row1 s b ∷ row 2 (not (isGlobal g)) ∷ row 3 (isOrdinary (regionOf g) && b .tag .set) ∷ row 4 (not (alignedTo (a .width) (g .0)))
+    ∷ row 8 (isOrdinary (regionOf g) && unreached (wayTo s (b .words) (b .store .records) g))
+    ∷ row 10 (isCached (regionOf g) && wordInUse (b .words) (frameUnder g))
+    ∷ row 12 (outside s (frameUnder g) (regionOf g)) ∷ []
+
+-- a load or a store in memory: prefix 0 never touches the cache
+unfoldable pub memoryAccess : Physical → Access → Store → Reached
+memoryAccess p a b =
+    cond (a .store)
+    (reached (answer 0 0 0) (b .records) (b .cache) (stored (b .memory) (p .0) (a .width) (a .value)))
+    (reached (answer 0 (number (b .memory) (p .0) (a .width)) 0) (b .records) (b .cache) (b .memory))
+
+-- what it does, by what the address reaches (the page table region has been refused by row 12)
+unfoldable pub supervisorDone : Shape → List ℕ → Access → Global → Store → Region → Reached
+supervisorDone s words a g b Uncached = memoryAccess (physicalOf g) a b
+supervisorDone s words a g b Cached = accessed s words g a b
+supervisorDone s words a g b PageTable = stopped b 12
+supervisorDone s words a g b Ordinary = accessed s words g a b
+
+unfoldable pub supervisorAccess : Shape → Board → Access → Global → Outcome
+supervisorAccess s b a g =
+    byTable (refused b) (supervisorTable s b a g) (onBoard b (supervisorDone s (b .words) a g (b .store) (regionOf g)))

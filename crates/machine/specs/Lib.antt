@@ -1,0 +1,7 @@
+pub mod Boards
+pub mod Refusals
+pub mod Accesses
+pub mod Calls
+pub mod Looks
+pub mod Numbers
+pub mod Determined
