@@ -24,7 +24,7 @@ use Rattle.access.specs.Checks.{target, regionPlan, waits, supervisorPla
 use Rattle.access.specs.declared.Plan.{Plan}
 use Rattle.access.specs.declared.Plan.the-variants.{Stop, Line, Memory}
 use Rattle.access.proofs.Shapes.{fits-uncached, fits-memory}
-use Rattle.access.proofs.Checks.{Aligned, aligned-inside}
+use Rattle.machine.proofs.Alignments.{Aligned, aligned-inside}
 
 -- the word of a frame beyond memory counts as 0
 module _ (s : Shape) (words : List ℕ) (g : Global) (frame : ℕ) (p : Physical) (q : p ≡ physicalOf g) (e : frame ≡ frameOfPhysical p) where

@@ -1,3 +1,4 @@
 pub mod Tables
 pub mod NumbersToCheck
 pub mod Determined
+pub mod Alignments

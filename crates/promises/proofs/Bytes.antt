@@ -1,0 +1,110 @@
+-- Bytes stored and copied, read back one by one, and lines by their bytes.
+use Prim.Native.Nat.{ℕ, suc, zero, _+_, _*_, _≤_, _<_}
+use mathlib.Core.Logic.{_≢_}
+use mathlib.Core.Path.{_≡_, refl, sym, ap, _∙_}
+use mathlib.Core.Bool.{Bool, true, false}
+use mathlib.Core.List.{List, [], _∷_}
+use native.Mathlib.Omega.{arith}
+use lib.Dec.{eqb, ltb}
+use lib.ListN.{length, getD, set, length-set}
+use lib.Seq.{getD-set-same, getD-set-other, getD-take, getD-drop, ext-getD}
+use borrow.Author.Tests.{eqb-true, eqb-false, ltb-true, ltb-false}
+use Rattle.board.specs.Lists.{splice, part}
+use Rattle.board.proofs.Lists.{length-part}
+use Rattle.lines.specs.Bytes.{number, digits, lineOf}
+use Rattle.promises.proofs.Sim.{byte}
+
+-- ---- one element after a store
+
+pub splice-below : (l : List ℕ) (at : ℕ) (vs : List ℕ) (k : ℕ) → k < at → getD (splice l at vs) k 0 ≡ getD l k 0
+unfolding splice
+splice-below l at [] k h = refl
+splice-below l at (v ∷ vs) k h = splice-below (set l at v) (suc at) vs k (omega arith) ∙ getD-set-other l at k v 0 (omega arith)
+
+pub splice-above : (l : List ℕ) (at : ℕ) (vs : List ℕ) (k : ℕ) → at + length vs ≤ k → getD (splice l at vs) k 0 ≡ getD l k 0
+unfolding splice
+splice-above l at [] k h = refl
+splice-above l at (v ∷ vs) k h = splice-above (set l at v) (suc at) vs k (omega arith) ∙ getD-set-other l at k v 0 (omega arith)
+
+pub splice-in : (l : List ℕ) (at : ℕ) (vs : List ℕ) (k x : ℕ) → x ≡ at + k → k < length vs → x < length l → getD (splice l at vs) x 0 ≡ getD vs k 0
+unfolding splice
+splice-in l at (v ∷ vs) zero x e h b =
+    let a : x ≡ at = omega arith in
+    splice-below (set l at v) (suc at) vs x (omega arith) ∙ rw a (getD-set-same l at v 0 (omega arith))
+splice-in l at (v ∷ vs) (suc k) x e h b = splice-in (set l at v) (suc at) vs k x (omega arith) (omega arith) (rw length-set b)
+splice-in l at [] k x e h b = absurd (omega arith)
+
+-- two lists that agree at x and y agree there after the same bytes are stored at the same distance
+pub splice-match : (l m vs : List ℕ) (p q x y : ℕ) → p + y ≡ q + x → x < length l → y < length m → getD l x 0 ≡ getD m y 0
+    → getD (splice l p vs) x 0 ≡ getD (splice m q vs) y 0
+unfolding splice
+splice-match l m [] p q x y d hx hy e = e
+splice-match l m (v ∷ vs) p q x y d hx hy e =
+    splice-match (set l p v) (set m q v) vs (suc p) (suc q) x y (omega arith) (rw length-set hx) (rw length-set hy) (one (eqb x p) refl)
+  where
+    one : (t : Bool) → eqb x p ≡ t → getD (set l p v) x 0 ≡ getD (set m q v) y 0
+    one true t =
+        let a : x ≡ p = eqb-true x p t in
+        let b : y ≡ q = omega arith in
+        rw (a, b) (getD-set-same l p v 0 (omega arith) ∙ sym (getD-set-same m q v 0 (omega arith)))
+    one false t =
+        let a : x ≢ p = eqb-false x p t in
+        let b : y ≢ q = omega arith in
+        getD-set-other l p x v 0 a ∙ e ∙ sym (getD-set-other m q y v 0 b)
+
+pub part-at : (l : List ℕ) (at n k : ℕ) → k < n → getD (part l at n) k 0 ≡ getD l (at + k) 0
+unfolding part
+part-at l at n k h = rw (getD-take, getD-drop)
+
+-- ---- numbers
+
+pub number-same : (l m : List ℕ) (p q n : ℕ) → ((k : ℕ) → k < n → getD l (p + k) 0 ≡ getD m (q + k) 0) → number l p n ≡ number m q n
+unfolding number
+number-same l m p q zero h = refl
+number-same l m p q (suc n) h =
+    let a = number-same l m p q n (λ k r. h k (omega arith)) in
+    let b = h n (omega arith) in
+    cc
+
+pub length-digits : (n v : ℕ) → length (digits n v) ≡ n
+unfolding digits
+length-digits zero v = refl
+length-digits (suc n) v = ap suc (length-digits n v)
+
+-- ---- lines
+
+-- bytes stored inside line p leave every other line alone
+pub splice-apart : (l : List ℕ) (at : ℕ) (vs : List ℕ) (p q k : ℕ) → 16 * p ≤ at → at + length vs ≤ 16 * p + 16 → q ≢ p → k < 16
+    → byte (splice l at vs) q k ≡ byte l q k
+splice-apart l at vs p q k a b n h = go (ltb q p) refl
+  where
+    go : (t : Bool) → ltb q p ≡ t → byte (splice l at vs) q k ≡ byte l q k
+    go true t = let d = ltb-true q p t in splice-below l at vs (16 * q + k) (omega arith)
+    go false t = let d = ltb-false q p t in splice-above l at vs (16 * q + k) (omega arith)
+
+-- line q of x, copied to line p of l
+module _ (l x : List ℕ) (p q : ℕ) (hl : 16 * p + 16 ≤ length l) (hx : 16 * q + 16 ≤ length x) where
+  pub copied-at : (k : ℕ) → k < 16 → byte (splice l (16 * p) (part x (16 * q) 16)) p k ≡ byte x q k
+  copied-at k h =
+      let n = length-part x (16 * q) 16 hx in
+      splice-in l (16 * p) (part x (16 * q) 16) k (16 * p + k) refl (omega arith) (omega arith) ∙ part-at x (16 * q) 16 k h
+
+  pub copied-other : (r k : ℕ) → r ≢ p → k < 16 → byte (splice l (16 * p) (part x (16 * q) 16)) r k ≡ byte l r k
+  copied-other r k n h =
+      let n′ = length-part x (16 * q) 16 hx in
+      splice-apart l (16 * p) (part x (16 * q) 16) p r k (omega arith) (omega arith) n h
+
+-- lines are equal exactly if their bytes are
+pub line-ext : (l m : List ℕ) (p q : ℕ) → 16 * p + 16 ≤ length l → 16 * q + 16 ≤ length m → ((k : ℕ) → k < 16 → byte l p k ≡ byte m q k)
+    → lineOf l p ≡ lineOf m q
+unfolding lineOf
+line-ext l m p q a b h =
+    let x = length-part l (16 * p) 16 a in
+    let y = length-part m (16 * q) 16 b in
+    ext-getD 0 (part l (16 * p) 16) (part m (16 * q) 16) (x ∙ sym y)
+    (λ i g. let g′ : i < 16 = omega arith in part-at l (16 * p) 16 i g′ ∙ h i g′ ∙ sym (part-at m (16 * q) 16 i g′))
+
+pub line-at : (l m : List ℕ) (p q k : ℕ) → lineOf l p ≡ lineOf m q → k < 16 → byte l p k ≡ byte m q k
+unfolding lineOf
+line-at l m p q k e h =
+    sym (part-at l (16 * p) 16 k h) ∙ ap (λ (z : List ℕ). getD z k 0) e ∙ part-at m (16 * q) 16 k h

@@ -1,0 +1,346 @@
+-- The page map: where a name leads, that no two names share a home, and what a changed frame word leaves alone.
+use Prim.Native.Nat.{ℕ, zero, suc, _+_, _*_, _-_, _/_, _%_, _^_, _≤_, _<_}
+use mathlib.Core.Logic.{_≢_}
+use mathlib.Core.Path.{_≡_, refl, sym, _∙_}
+use mathlib.Core.Bool.{Bool, true, false, _&&_, _||_, cond}
+use mathlib.Core.List.{List}
+use native.Mathlib.Omega.{arith}
+use lib.Dec.{eqb, leb, ltb}
+use lib.ListN.{length, getD, set, drop, drop-of-length-le, length-set}
+use lib.Seq.{drop-cons, getD-set-same, getD-set-other}
+use borrow.Author.Tests.{eqb-true, eqb-false, ltb-true, leb-true, eq-eqb, ne-eqb}
+use Rattle.address.specs.Layout.{firstPage}
+use Rattle.address.specs.Addresses.{ordinaryPage}
+use Rattle.board.specs.Pages.{frameWord, namesPage, wordWrites, lowestFrom, lowestFrame, mappedTo, freeFrame, directHome, homeBy, homeOf}
+use Rattle.board.specs.declared.Shape.{Shape}
+use Rattle.board.specs.declared.Found.{Found}
+use Rattle.board.specs.declared.Found.the-variants.{At, Nothing}
+use Rattle.board.specs.declared.Home.the-variants.{Line, Nowhere}
+use Rattle.board.proofs.Bools.{and-left, and-right}
+use Rattle.promises.proofs.Sim.{Homes}
+
+-- ---- words
+
+-- a word names a page if its page is that one and it is odd
+module _ (w page : ℕ) where
+  pub names-word : namesPage w page ≡ true → (w / 4 ≡ page) × (w % 2 ≡ 1)
+  names-word h = go (eqb w (page * 4 + 1)) refl h
+    where
+      go : (t : Bool) → eqb w (page * 4 + 1) ≡ t → (t || eqb w (page * 4 + 3)) ≡ true → (w / 4 ≡ page) × (w % 2 ≡ 1)
+      go true t h = let a = eqb-true w (page * 4 + 1) t in (omega arith, omega arith)
+      go false t h = let a = eqb-true w (page * 4 + 3) h in (omega arith, omega arith)
+
+  pub word-names : w / 4 ≡ page → w % 2 ≡ 1 → namesPage w page ≡ true
+  word-names a b = go (eqb w (page * 4 + 1)) refl
+    where
+      go : (t : Bool) → eqb w (page * 4 + 1) ≡ t → (t || eqb w (page * 4 + 3)) ≡ true
+      go true t = refl
+      go false t = let n = eqb-false w (page * 4 + 1) t in eq-eqb w (page * 4 + 3) (omega arith)
+
+  pub word-names-not : (w / 4 ≡ page → w % 2 ≡ 1 → ⊥) → namesPage w page ≡ false
+  word-names-not h = go (namesPage w page) refl
+    where
+      go : (t : Bool) → namesPage w page ≡ t → t ≡ false
+      go true t = let b = names-word t in absurd (h (b .0) (b .1))
+      go false t = refl
+
+module _ (page : ℕ) where
+  pub frame-word-page : (write : Bool) → frameWord page write / 4 ≡ page
+  frame-word-page true = omega arith
+  frame-word-page false = omega arith
+
+  pub frame-word-odd : (write : Bool) → frameWord page write % 2 ≡ 1
+  frame-word-odd true = omega arith
+  frame-word-odd false = omega arith
+
+  pub frame-word-writes : (write : Bool) → wordWrites (frameWord page write) ≡ write
+  frame-word-writes true = eq-eqb ((page * 4 + 2 * 1 + 1) / 2 % 2) 1 (omega arith)
+  frame-word-writes false = ne-eqb ((page * 4 + 2 * 0 + 1) / 2 % 2) 1 (omega arith)
+
+  pub frame-word-names : (write : Bool) → namesPage (frameWord page write) page ≡ true
+  frame-word-names write = word-names (frameWord page write) page (frame-word-page write) (frame-word-odd write)
+
+  pub ordinary-low : ordinaryPage page ≡ true → 0x200000 ≤ page
+  ordinary-low h = leb-true _ _ (and-left (leb firstPage page) _ h)
+
+  -- a page below the ordinary ones
+  pub ordinary-not : page < 0x200000 → ordinaryPage page ≡ false
+  ordinary-not h = go (ordinaryPage page) refl
+    where
+      go : (t : Bool) → ordinaryPage page ≡ t → t ≡ false
+      go true t = let a = ordinary-low t in absurd (omega arith)
+      go false t = refl
+
+-- ---- the search, by the frames' numbers
+
+-- the lowest of the n frames from f on whose word names the page
+unfoldable pub seek : List ℕ → ℕ → ℕ → ℕ → Found
+seek words page f zero = Nothing
+seek words page f (suc n) = cond (namesPage (getD words f 0) page) (At f) (seek words page (suc f) n)
+
+lowest-seek : (words : List ℕ) (page f n : ℕ) → n ≡ length words - f → lowestFrom (drop f words) f page ≡ seek words page f n
+unfolding lowestFrom seek
+lowest-seek words page f zero h = let a : length words ≤ f = omega arith in rw drop-of-length-le
+lowest-seek words page f (suc n) h =
+    let a : f < length words = omega arith in
+    rw (drop-cons words f 0) (rw (lowest-seek words page (suc f) n (omega arith)))
+
+pub record Sought (words : List ℕ) (page f n g : ℕ) : Type 0 where
+  pub from : f ≤ g
+  pub to : g < f + n
+  pub names : namesPage (getD words g 0) page ≡ true
+
+sought-step : (words : List ℕ) (page f n g : ℕ) (t : Bool) → namesPage (getD words f 0) page ≡ t → cond t (At f) (seek words page (suc f) n) ≡ At g
+    → (seek words page (suc f) n ≡ At g → Sought words page (suc f) n g) → Sought words page f (suc n) g
+sought-step words page f n g true t h later =
+    let a : f ≡ g = cc in
+    rw (← a) record { from = omega arith; to = omega arith; names = t }
+sought-step words page f n g false t h later =
+    let s = later h in
+    record { from = omega arith; to = omega arith; names = s .names }
+
+sought : (words : List ℕ) (page f n g : ℕ) → seek words page f n ≡ At g → Sought words page f n g
+unfolding seek
+sought words page f zero g h = let z : _≡_ {A = ℕ} 0 1 = cc in absurd (omega arith)
+sought words page f (suc n) g h = sought-step words page f n g (namesPage (getD words f 0) page) refl h (sought words page (suc f) n g)
+
+-- the search finds nothing: no frame in its range names the page
+sought-none : (words : List ℕ) (page f n g : ℕ) → seek words page f n ≡ Nothing → f ≤ g → g < f + n → namesPage (getD words g 0) page ≡ false
+unfolding seek
+sought-none words page f zero g h a b = absurd (omega arith)
+sought-none words page f (suc n) g h a b = go (namesPage (getD words f 0) page) (eqb g f) refl refl h (sought-none words page (suc f) n g)
+  where
+    go : (t u : Bool) → namesPage (getD words f 0) page ≡ t → eqb g f ≡ u → cond t (At f) (seek words page (suc f) n) ≡ Nothing
+        → (seek words page (suc f) n ≡ Nothing → suc f ≤ g → g < suc f + n → namesPage (getD words g 0) page ≡ false) → namesPage (getD words g 0) page ≡ false
+    go true u t v h later = let z : _≡_ {A = ℕ} 0 1 = cc in absurd (omega arith)
+    go false true t v h later = let q : g ≡ f = eqb-true g f v in rw q t
+    go false false t v h later = let q = eqb-false g f v in later h (omega arith) (omega arith)
+
+-- a frame's word changed
+module _ (words : List ℕ) (page f w : ℕ) (b : f < length words) where
+  names-set : (a : ℕ) → namesPage (getD words f 0) page ≡ false → namesPage w page ≡ false
+      → namesPage (getD (set words f w) a 0) page ≡ namesPage (getD words a 0) page
+  names-set a x y = go (eqb a f) refl
+    where
+      go : (t : Bool) → eqb a f ≡ t → namesPage (getD (set words f w) a 0) page ≡ namesPage (getD words a 0) page
+      go true t = let q : a ≡ f = eqb-true a f t in rw (q, getD-set-same words f w 0 b) (y ∙ sym x)
+      go false t = rw (getD-set-other words f a w 0 (eqb-false a f t))
+
+  seek-set : (a n : ℕ) → namesPage (getD words f 0) page ≡ false → namesPage w page ≡ false → seek (set words f w) page a n ≡ seek words page a n
+  unfolding seek
+  seek-set a zero x y = refl
+  seek-set a (suc n) x y = rw (names-set a x y, seek-set (suc a) n x y)
+
+  seek-hit : (a n : ℕ) → namesPage w page ≡ true → seek words page a n ≡ At f → seek (set words f w) page a n ≡ At f
+  unfolding seek
+  seek-hit a zero y h = h
+  seek-hit a (suc n) y h = go (eqb a f) (namesPage (getD words a 0) page) refl refl h (seek-hit (suc a) n y)
+    where
+      go : (t u : Bool) → eqb a f ≡ t → namesPage (getD words a 0) page ≡ u → cond u (At a) (seek words page (suc a) n) ≡ At f
+          → (seek words page (suc a) n ≡ At f → seek (set words f w) page (suc a) n ≡ At f)
+          → cond (namesPage (getD (set words f w) a 0) page) (At a) (seek (set words f w) page (suc a) n) ≡ At f
+      go true u t v h later = let q : a ≡ f = eqb-true a f t in rw (q, getD-set-same words f w 0 b, y)
+      go false true t v h later = let z : a ≡ f = cc in absurd (eqb-false a f t z)
+      go false false t v h later = rw (getD-set-other words f a w 0 (eqb-false a f t), v) (later h)
+
+  -- a page that no frame names is found in the frame that comes to name it
+  seek-new : (a n : ℕ) → namesPage w page ≡ true → seek words page a n ≡ Nothing → a ≤ f → f < a + n → seek (set words f w) page a n ≡ At f
+  unfolding seek
+  seek-new a zero y h i j = absurd (omega arith)
+  seek-new a (suc n) y h i j = go (eqb a f) (namesPage (getD words a 0) page) refl refl h (seek-new (suc a) n y)
+    where
+      go : (t u : Bool) → eqb a f ≡ t → namesPage (getD words a 0) page ≡ u → cond u (At a) (seek words page (suc a) n) ≡ Nothing
+          → (seek words page (suc a) n ≡ Nothing → suc a ≤ f → f < suc a + n → seek (set words f w) page (suc a) n ≡ At f)
+          → cond (namesPage (getD (set words f w) a 0) page) (At a) (seek (set words f w) page (suc a) n) ≡ At f
+      go true u t v h later = let q : a ≡ f = eqb-true a f t in rw (q, getD-set-same words f w 0 b, y)
+      go false true t v h later = let z : _≡_ {A = ℕ} 0 1 = cc in absurd (omega arith)
+      go false false t v h later = let q = eqb-false a f t in rw (getD-set-other words f a w 0 q, v) (later h (omega arith) (omega arith))
+
+-- ---- the frame of a page
+
+-- what is mapped: an ordinary page, to a frame from U up whose word names it
+pub record Mapped (s : Shape) (words : List ℕ) (page f : ℕ) : Type 0 where
+  pub ordinary : ordinaryPage page ≡ true
+  pub from : s .uncached ≤ f
+  pub inside : f < length words
+  pub names : namesPage (getD words f 0) page ≡ true
+  pub page-is : getD words f 0 / 4 ≡ page
+  pub odd : getD words f 0 % 2 ≡ 1
+
+if-at : (t : Bool) (found : Found) (f : ℕ) → cond t found Nothing ≡ At f → (t ≡ true) × (found ≡ At f)
+if-at true found f e = (refl, e)
+if-at false found f e = let z : _≡_ {A = ℕ} 0 1 = cc in absurd (omega arith)
+
+module _ (s : Shape) (words : List ℕ) (page : ℕ) where
+  mapped-seek : mappedTo s words page ≡ cond (ordinaryPage page) (seek words page (s .uncached) (length words - s .uncached)) Nothing
+  unfolding mappedTo lowestFrame
+  mapped-seek = rw (lowest-seek words page (s .uncached) (length words - s .uncached) refl)
+
+  mapped-ordinary : ordinaryPage page ≡ true → mappedTo s words page ≡ seek words page (s .uncached) (length words - s .uncached)
+  mapped-ordinary h = mapped-seek ∙ rw h
+
+  pub mapped-other : ordinaryPage page ≡ false → mappedTo s words page ≡ Nothing
+  mapped-other h = mapped-seek ∙ rw h
+
+  mapped-both : (f : ℕ) → mappedTo s words page ≡ At f → (ordinaryPage page ≡ true) × (seek words page (s .uncached) (length words - s .uncached) ≡ At f)
+  mapped-both f h = if-at (ordinaryPage page) (seek words page (s .uncached) (length words - s .uncached)) f (sym mapped-seek ∙ h)
+
+  pub mapped-frame : (f : ℕ) → mappedTo s words page ≡ At f → Mapped s words page f
+  mapped-frame f h =
+      let b = mapped-both f h in
+      let g = sought words page (s .uncached) (length words - s .uncached) f (b .1) in
+      let n = names-word (getD words f 0) page (g .names) in
+      record { ordinary = b .0; from = g .from; inside = omega arith; names = g .names; page-is = n .0; odd = n .1 }
+
+  -- no frame from U up names an ordinary page that is not mapped
+  pub mapped-nothing : ordinaryPage page ≡ true → mappedTo s words page ≡ Nothing
+      → (g : ℕ) → s .uncached ≤ g → g < length words → namesPage (getD words g 0) page ≡ false
+  mapped-nothing o h g a b = sought-none words page (s .uncached) (length words - s .uncached) g (sym (mapped-ordinary o) ∙ h) a (omega arith)
+
+-- the frame of a page after the word of a frame is changed
+module _ (s : Shape) (words : List ℕ) (page f w : ℕ) (b : f < length words) where
+  -- a word that did not name the page and does not name it now
+  pub mapped-set : namesPage (getD words f 0) page ≡ false → namesPage w page ≡ false → mappedTo s (set words f w) page ≡ mappedTo s words page
+  mapped-set x y =
+      mapped-seek s (set words f w) page
+      ∙ rw (length-set words f w, seek-set words page f w b (s .uncached) (length words - s .uncached) x y) (sym (mapped-seek s words page))
+
+  -- the word of the page's frame, which still names it
+  pub mapped-hit : namesPage w page ≡ true → mappedTo s words page ≡ At f → mappedTo s (set words f w) page ≡ At f
+  mapped-hit y h =
+      let o = mapped-both s words page f h in
+      mapped-ordinary s (set words f w) page (o .0)
+      ∙ rw (length-set words f w) (seek-hit words page f w b (s .uncached) (length words - s .uncached) y (o .1))
+
+  -- a page that was not mapped, in the frame whose word comes to name it
+  pub mapped-new : ordinaryPage page ≡ true → s .uncached ≤ f → namesPage w page ≡ true → mappedTo s words page ≡ Nothing → mappedTo s (set words f w) page ≡ At f
+  mapped-new o u y h =
+      mapped-ordinary s (set words f w) page o
+      ∙ rw (length-set words f w) (seek-new words page f w b (s .uncached) (length words - s .uncached) y (sym (mapped-ordinary s words page o) ∙ h) u (omega arith))
+
+-- ---- the home of a name
+
+module _ (s : Shape) (words : List ℕ) (name : ℕ) where
+  pub mapped-home : (f : ℕ) → mappedTo s words (name / 256) ≡ At f → homeOf s words name ≡ Line (f * 256 + name % 256) (wordWrites (getD words f 0))
+  unfolding homeOf homeBy
+  mapped-home f h = rw h
+
+  home-direct : mappedTo s words (name / 256) ≡ Nothing → homeOf s words name ≡ directHome s words name
+  unfolding homeOf homeBy
+  home-direct h = rw h
+
+  -- an ordinary page that is not mapped
+  pub unmapped-home : ordinaryPage (name / 256) ≡ true → mappedTo s words (name / 256) ≡ Nothing → homeOf s words name ≡ Nowhere
+  unfolding directHome
+  unmapped-home o h =
+      let l = ordinary-low (name / 256) o in
+      home-direct h ∙ rw (ne-eqb (name / 2 ^ 28) 1 (omega arith))
+
+  -- a name under prefix 1
+  module _ (one : name / 2 ^ 28 ≡ 1) where
+    pub direct-not-ordinary : ordinaryPage (name / 256) ≡ false
+    direct-not-ordinary = ordinary-not (name / 256) (omega arith)
+
+    pub direct-unmapped : mappedTo s words (name / 256) ≡ Nothing
+    direct-unmapped = mapped-other s words (name / 256) direct-not-ordinary
+
+    pub free-home : freeFrame s words (name % 2 ^ 28 / 256) ≡ true → homeOf s words name ≡ Line (name % 2 ^ 28) true
+    unfolding directHome
+    free-home h = home-direct direct-unmapped ∙ rw (eq-eqb (name / 2 ^ 28) 1 one, h)
+
+    pub used-home : freeFrame s words (name % 2 ^ 28 / 256) ≡ false → homeOf s words name ≡ Nowhere
+    unfolding directHome
+    used-home h = home-direct direct-unmapped ∙ rw (eq-eqb (name / 2 ^ 28) 1 one, h)
+
+-- what a home says: the name is its physical line under prefix 1, of a free frame, or the word of a frame names the page
+pub data Homed (s : Shape) (words : List ℕ) (n p : ℕ) (w : Bool) : Type 0 where
+  direct : n ≡ 2 ^ 28 + p → p < 2 ^ 28 → s .uncached ≤ p / 256 → p / 256 < s .frames → getD words (p / 256) 0 ≡ 0 → w ≡ true → Homed s words n p w
+  mapped : ordinaryPage (n / 256) ≡ true → p % 256 ≡ n % 256 → s .uncached ≤ p / 256 → p / 256 < length words
+      → getD words (p / 256) 0 / 4 ≡ n / 256 → getD words (p / 256) 0 % 2 ≡ 1 → w ≡ wordWrites (getD words (p / 256) 0) → Homed s words n p w
+
+-- a line under a test is that line, and the test passed
+if-line : (t : Bool) (m p : ℕ) (w : Bool) → cond t (Line m true) Nowhere ≡ Line p w → (t ≡ true) × ((m ≡ p) × (w ≡ true))
+if-line true m p w e = (refl, (cc, cc))
+if-line false m p w e = let z : _≡_ {A = ℕ} 0 1 = cc in absurd (omega arith)
+
+module _ (s : Shape) (words : List ℕ) (n p : ℕ) (w : Bool) where
+  homed-direct : directHome s words n ≡ Line p w → Homed s words n p w
+  unfolding directHome freeFrame
+  homed-direct h =
+      let z = if-line _ (n % 2 ^ 28) p w h in
+      let one = eqb-true (n / 2 ^ 28) 1 (and-left (eqb (n / 2 ^ 28) 1) _ (z .0)) in
+      let a = and-right (eqb (n / 2 ^ 28) 1) _ (z .0) in
+      let q = and-right (leb (s .uncached) (n % 2 ^ 28 / 256)) _ a in
+      let low = leb-true (s .uncached) (n % 2 ^ 28 / 256) (and-left (leb (s .uncached) (n % 2 ^ 28 / 256)) _ a) in
+      let high = ltb-true (n % 2 ^ 28 / 256) (s .frames) (and-left (ltb (n % 2 ^ 28 / 256) (s .frames)) _ q) in
+      let free = eqb-true (getD words (n % 2 ^ 28 / 256) 0) 0 (and-right (ltb (n % 2 ^ 28 / 256) (s .frames)) _ q) in
+      let e : n % 2 ^ 28 ≡ p = z .1 .0 in
+      direct (omega arith) (omega arith) (rw e at low) (rw e at high) (rw e at free) (z .1 .1)
+
+  homed-by : (found : Found) → mappedTo s words (n / 256) ≡ found → homeBy s words n found ≡ Line p w → Homed s words n p w
+  unfolding homeBy
+  homed-by (At f) e h =
+      let a = mapped-frame s words (n / 256) f e in
+      let q : f * 256 + n % 256 ≡ p = cc in
+      let r : wordWrites (getD words f 0) ≡ w = cc in
+      let k : p / 256 ≡ f = omega arith in
+      mapped (a .ordinary) (omega arith) (rw k (a .from)) (rw k (a .inside)) (rw k (a .page-is)) (rw k (a .odd)) (rw k (sym r))
+  homed-by Nothing e h = homed-direct h
+
+  pub homed : homeOf s words n ≡ Line p w → Homed s words n p w
+  unfolding homeOf
+  homed h = homed-by (mappedTo s words (n / 256)) refl h
+
+-- no two names share a home
+homed-apart : (s : Shape) (words : List ℕ) (n m p : ℕ) (w v : Bool) → Homed s words n p w → Homed s words m p v → n ≡ m
+homed-apart s words n m p w v (direct a b c d e f) (direct a′ b′ c′ d′ e′ f′) = omega arith
+homed-apart s words n m p w v (direct a b c d e f) (mapped a′ b′ c′ d′ e′ f′ h′) = absurd (omega arith)
+homed-apart s words n m p w v (mapped a b c d e f h) (direct a′ b′ c′ d′ e′ f′) = absurd (omega arith)
+homed-apart s words n m p w v (mapped a b c d e f h) (mapped a′ b′ c′ d′ e′ f′ h′) = omega arith
+
+homed-inside : (s : Shape) (words : List ℕ) (n p : ℕ) (w : Bool) → length words ≡ s .frames → Homed s words n p w → p < 256 * s .frames
+homed-inside s words n p w z (direct a b c d e f) = omega arith
+homed-inside s words n p w z (mapped a b c d e f h) = omega arith
+
+homed-above : (s : Shape) (words : List ℕ) (n p : ℕ) (w : Bool) → Homed s words n p w → s .uncached ≤ p / 256
+homed-above s words n p w (direct a b c d e f) = c
+homed-above s words n p w (mapped a b c d e f h) = c
+
+-- a home lies in the frames from U up
+pub home-above : (s : Shape) (words : List ℕ) (n p : ℕ) (w : Bool) → homeOf s words n ≡ Line p w → s .uncached ≤ p / 256
+home-above s words n p w h = homed-above s words n p w (homed s words n p w h)
+
+pub homes-map : (s : Shape) (words : List ℕ) → length words ≡ s .frames → s .frames ≤ 1048576 → Homes s (homeOf s words)
+homes-map s words z _ = record {
+  apart = λ n m p w v a b. homed-apart s words n m p w v (homed s words n p w a) (homed s words m p v b);
+  inside = λ n p w a. homed-inside s words n p w z (homed s words n p w a);
+}
+
+-- ---- the home of a name after the word of a frame is changed
+
+module _ (s : Shape) (words : List ℕ) (f w name p : ℕ) (x : Bool) (b : f < length words) (h : homeOf s words name ≡ Line p x) where
+  home-by-set : (found : Found) → homeBy s words name found ≡ Line p x → p / 256 ≢ f → homeBy s (set words f w) name found ≡ Line p x
+  unfolding homeBy directHome freeFrame
+  home-by-set (At g) e n =
+      let a : g * 256 + name % 256 ≡ p = cc in
+      let k : g ≢ f = omega arith in
+      rw (getD-set-other words f g w 0 k) e
+  home-by-set Nothing e n =
+      let a = if-line (eqb (name / 2 ^ 28) 1 && freeFrame s words (name % 2 ^ 28 / 256)) (name % 2 ^ 28) p x e .1 .0 in
+      let k : name % 2 ^ 28 / 256 ≢ f = rw a n in
+      rw (getD-set-other words f (name % 2 ^ 28 / 256) w 0 k) e
+
+  -- a home in another frame, of a page that the word did not name and does not name now
+  pub home-set : p / 256 ≢ f → namesPage (getD words f 0) (name / 256) ≡ false → namesPage w (name / 256) ≡ false → homeOf s (set words f w) name ≡ Line p x
+  unfolding homeOf
+  home-set n y z = rw (mapped-set s words (name / 256) f w b y z) (home-by-set (mappedTo s words (name / 256)) h n)
+
+  -- a home of another page than the frame's is in another frame, and stays when the word comes to name no other page
+  pub home-elsewhere : (page : ℕ) → getD words f 0 / 4 ≡ page → getD words f 0 % 2 ≡ 1 → name / 256 ≢ page → (w / 4 ≡ name / 256 → w % 2 ≡ 1 → ⊥)
+      → homeOf s (set words f w) name ≡ Line p x
+  home-elsewhere page here odd n y =
+      home-set (λ q. go (homed s words name p x h) q) (word-names-not _ _ (λ a _. n (sym a ∙ here))) (word-names-not _ _ y)
+    where
+      go : Homed s words name p x → p / 256 ≢ f
+      go (direct a c d e o _) q = let z = rw q at o in absurd (omega arith)
+      go (mapped a c d e o i _) q = let z = rw q at o in n (sym z ∙ here)

@@ -1,0 +1,51 @@
+-- Demand 1. Whatever numbers and buffers a caller brings, a refused call says why, by the lowest number in the
+-- table that applies, gives value 0 and changes nothing.
+-- (That every call ends and touches nothing outside its buffers is what the gate proves of each function.)
+use Prim.Native.Nat.{ℕ, _≤_}
+use mathlib.Core.Path.{_≡_}
+use mathlib.Core.Bool.{Bool, true, false, _&&_, _||_}
+use mathlib.Core.List.{List, [], _∷_}
+use lib.Dec.{eqb}
+use Rattle.board.specs.declared.Shape.{Shape}
+use Rattle.machine.specs.Boards.{Board, refused}
+use Rattle.machine.specs.Refusals.{Row}
+use Rattle.machine.specs.Accesses.{userTable, supervisorTable}
+use Rattle.machine.specs.Calls.{attachTable, detachTable, mapTable, pageTable, flushTable, tagTable, loadAndMapTable, dropTagTable}
+use Rattle.promises.specs.Runs.{Supervisor, access, attach, detach, map, unmap, protect, flushAll, tag, loadAndMap, dropTag, Call, user, supervisor, step}
+
+-- the table of a call
+unfoldable pub supervisorRows : Shape → Board → Supervisor → List Row
+supervisorRows s b (access a g) = supervisorTable s b a g
+supervisorRows s b (attach process slot segment write) = attachTable s b process slot segment
+supervisorRows s b (detach process slot) = detachTable s b process slot
+supervisorRows s b (map page frame write) = mapTable s b page frame
+supervisorRows s b (unmap page) = pageTable s b page
+supervisorRows s b (protect page write) = pageTable s b page
+supervisorRows s b flushAll = flushTable s b
+supervisorRows s b (tag name) = tagTable s b name
+supervisorRows s b (loadAndMap line) = loadAndMapTable s b line
+supervisorRows s b dropTag = dropTagTable s b
+
+unfoldable pub rowsOf : Shape → Board → Call → List Row
+rowsOf s b (user process a e) = userTable s b process a e
+rowsOf s b (supervisor c) = supervisorRows s b c
+
+-- a row with this number applies
+unfoldable pub appliesIn : List Row → ℕ → Bool
+appliesIn [] n = false
+appliesIn (r ∷ rows) n = (r .applies && eqb (r .number) n) || appliesIn rows n
+
+-- n is the lowest number that applies, and 0 exactly if none does
+pub record Lowest (rows : List Row) (n : ℕ) : Type 0 where
+  pub none-applies : n ≡ 0 → (k : ℕ) → appliesIn rows k ≡ false
+  pub applies : (n ≡ 0 → ⊥) → appliesIn rows n ≡ true
+  pub lowest : (k : ℕ) → appliesIn rows k ≡ true → n ≤ k
+
+pub record Refusals (s : Shape) (b : Board) (k : Call) : Type 0 where
+  -- the number is the lowest that applies, and 0 exactly if none does
+  pub number-is-lowest : Lowest (rowsOf s b k) (step s b k .answer .number)
+  -- refused: value 0, mark 0 and nothing changed
+  pub nothing-changed : (step s b k .answer .number ≡ 0 → ⊥) → step s b k ≡ refused b (step s b k .answer .number)
+
+abbrev pub Demand1 : Type 0
+Demand1 = (s : Shape) (b : Board) (k : Call) → Refusals s b k

@@ -1,0 +1,52 @@
+-- Demand 2. From a fresh board, any sequence of calls gives the answers and values of the plain machine. It refuses
+-- only when that machine does. A permitted access to a mapped page is done in that same call, with at most one line refilled.
+use Prim.Native.Nat.{ℕ, _%_}
+use mathlib.Core.Path.{_≡_}
+use mathlib.Core.List.{List}
+use Rattle.address.specs.Addresses.{nameOf}
+use Rattle.address.specs.declared.Effective.{Effective}
+use Rattle.address.specs.declared.Global.{Global}
+use Rattle.board.specs.declared.Shape.{Shape}
+use Rattle.lines.specs.Bytes.{lineOf}
+use Rattle.lines.specs.Records.{lineAt}
+use Rattle.lines.specs.Stores.{Store, placeOf}
+use Rattle.lines.specs.declared.Access.{Access}
+use Rattle.machine.specs.Boards.{ways, Board, fresh}
+use Rattle.machine.specs.Accesses.{userGlobal, userAccess, supervisorAccess}
+use Rattle.machine.specs.Looks.{look}
+use Rattle.promises.specs.Plain.{plainLook}
+use Rattle.promises.specs.Runs.{Call, step, after, replies, plainStep, plainAfter, plainReplies, plainOf}
+use Rattle.promises.specs.Sound.{Sound, Shows}
+
+-- the board, run from b, is the plain machine, run from the same slots, words and tag and this memory
+pub record Alike (s : Shape) (b : Board) (memory : List ℕ) (ks : List Call) : Type 0 where
+  -- the numbers and values are the plain machine's
+  pub same-replies : replies s b ks ≡ plainReplies s (plainOf b memory) ks
+  -- at every moment look shows the plain machine's memory (`ks` is any list, so any first part of a run too)
+  pub same-bytes : (line : ℕ) → look s (after s b ks) line ≡ plainLook s (plainAfter s (plainOf b memory) ks) line
+  -- a call that the plain machine does is done in that same call
+  pub done-at-once : (k : Call) → plainStep s (plainAfter s (plainOf b memory) ks) k .number ≡ 0 → step s (after s b ks) k .answer .number ≡ 0
+
+-- an access leaves every record and every line but those at one place as they were: at most one line is refilled
+pub record OnlyAt (place : ℕ) (x y : Store) : Type 0 where
+  pub same-records : (i : ℕ) → (i ≡ place → ⊥) → lineAt (y .records) i ≡ lineAt (x .records) i
+  pub same-cache : (i : ℕ) → (i ≡ place → ⊥) → lineOf (y .cache) i ≡ lineOf (x .cache) i
+
+-- of a fresh board
+abbrev pub Demand2 : Type 0
+Demand2 = (s : Shape) (cache memory : List ℕ) (ks : List Call) → Alike s (fresh s cache memory) memory ks
+
+-- of any sound board, which stays sound
+pub record SoundRun (s : Shape) (b : Board) (memory : List ℕ) (ks : List Call) : Type 0 where
+  pub alike : Alike s b memory ks
+  pub sound : Sound s (after s b ks)
+
+abbrev pub Demand2Sound : Type 0
+Demand2Sound = (s : Shape) (b : Board) (memory : List ℕ) → Sound s b → Shows s b memory → (ks : List Call) → SoundRun s b memory ks
+
+-- of any board at all: an access alters no record but the one at its own place, and fills no other line
+pub record Demand2Place : Type 0 where
+  pub user-place : (s : Shape) (b : Board) (process : ℕ) (a : Access) (e : Effective)
+      → OnlyAt (placeOf ways s (nameOf (userGlobal (b .slots) process e))) (b .store) (userAccess s b process a e .after .store)
+  pub supervisor-place : (s : Shape) (b : Board) (a : Access) (g : Global)
+      → OnlyAt (placeOf ways s (nameOf g)) (b .store) (supervisorAccess s b a g .after .store)

@@ -1,0 +1,109 @@
+-- Demand 3. What one process gets does not depend on the accesses of the others.
+use Prim.Native.Nat.{ℕ, zero, suc, _/_, _<_}
+use mathlib.Core.Path.{_≡_}
+use mathlib.Core.Bool.{Bool, true, false, not, _&&_, _||_, cond}
+use mathlib.Core.List.{List, [], _∷_}
+use lib.ListN.{getD}
+use lib.Dec.{eqb}
+use Rattle.address.specs.Layout.{processSlots, pageLines}
+use Rattle.board.specs.Slots.{slotIndex, slotSegment, slotWrites, slotEmpty}
+use Rattle.board.specs.Pages.{mappedTo}
+use Rattle.board.specs.declared.Shape.{Shape}
+use Rattle.board.specs.declared.Found.{Found}
+use Rattle.board.specs.declared.Found.the-variants.{At}
+use Rattle.machine.specs.Boards.{Board, fresh}
+use Rattle.machine.specs.Looks.{look}
+use Rattle.promises.specs.Runs.{Call, user, supervisor, Reply, reply, step, after, plainReply, plainStep, plainOf}
+use Rattle.promises.specs.Plain.{Plain}
+use Rattle.promises.specs.Sound.{LinesOnce}
+
+-- ---- holding a segment, read off the slots
+
+-- this slot word holds the segment, for writing or not
+abbrev pub wordHolds : ℕ → ℕ → Bool
+wordHolds segment word = not (slotEmpty word) && eqb (slotSegment word) segment
+
+abbrev pub wordWritesTo : ℕ → ℕ → Bool
+wordWritesTo segment word = wordHolds segment word && slotWrites word
+
+-- one of the first n slots of the process passes the test
+unfoldable pub someSlot : (ℕ → Bool) → List ℕ → ℕ → ℕ → Bool
+someSlot test slots process zero = false
+someSlot test slots process (suc n) = test (getD slots (slotIndex process n) 0) || someSlot test slots process n
+
+-- the process holds the segment; it holds it for writing
+abbrev pub holds : List ℕ → ℕ → ℕ → Bool
+holds slots process segment = someSlot (wordHolds segment) slots process processSlots
+
+abbrev pub holdsForWriting : List ℕ → ℕ → ℕ → Bool
+holdsForWriting slots process segment = someSlot (wordWritesTo segment) slots process processSlots
+
+-- at some moment of a run
+unfoldable pub atSomeMoment : (List ℕ → Bool) → Shape → Board → List Call → Bool
+atSomeMoment test s b [] = test (b .slots)
+atSomeMoment test s b (k ∷ ks) = test (b .slots) || atSomeMoment test s (step s b k .after) ks
+
+abbrev pub everHolds : Shape → Board → List Call → ℕ → ℕ → Bool
+everHolds s b ks process segment = atSomeMoment (λ slots. holds slots process segment) s b ks
+
+abbrev pub everWrites : Shape → Board → List Call → ℕ → ℕ → Bool
+everWrites s b ks process segment = atSomeMoment (λ slots. holdsForWriting slots process segment) s b ks
+
+-- no segment that the process holds at any moment of the run is held for writing by another process at any moment of it
+abbrev pub Apart : Shape → Board → List Call → ℕ → Type 0
+Apart s b ks process =
+    (segment other : ℕ) → other < s .processes → (other ≡ process → ⊥)
+    → everHolds s b ks process segment ≡ true → everWrites s b ks other segment ≡ true → ⊥
+
+-- ---- two runs
+
+-- the calls without the accesses of the other processes
+unfoldable pub withoutOthers : ℕ → List Call → List Call
+withoutOthers process [] = []
+withoutOthers process (user q a e ∷ ks) = cond (eqb q process) (user q a e ∷ withoutOthers process ks) (withoutOthers process ks)
+withoutOthers process (supervisor c ∷ ks) = supervisor c ∷ withoutOthers process ks
+
+-- the same supervisor calls and the same accesses by our process, in the same order
+abbrev pub SameFor : ℕ → List Call → List Call → Type 0
+SameFor process ks ls = withoutOthers process ks ≡ withoutOthers process ls
+
+-- what our process gets: the replies to its accesses, in order
+unfoldable pub repliesTo : ℕ → Shape → Board → List Call → List Reply
+repliesTo process s b [] = []
+repliesTo process s b (user q a e ∷ ks) =
+    cond (eqb q process) (reply (step s b (user q a e) .answer) ∷ repliesTo process s (step s b (user q a e) .after) ks)
+    (repliesTo process s (step s b (user q a e) .after) ks)
+repliesTo process s b (supervisor c ∷ ks) = repliesTo process s (step s b (supervisor c) .after) ks
+
+unfoldable pub plainRepliesTo : ℕ → Shape → Plain → List Call → List Reply
+plainRepliesTo process s p [] = []
+plainRepliesTo process s p (user q a e ∷ ks) =
+    cond (eqb q process) (plainReply (plainStep s p (user q a e)) ∷ plainRepliesTo process s (plainStep s p (user q a e) .after) ks)
+    (plainRepliesTo process s (plainStep s p (user q a e) .after) ks)
+plainRepliesTo process s p (supervisor c ∷ ks) = plainRepliesTo process s (plainStep s p (supervisor c) .after) ks
+
+-- the segment of a page
+abbrev pub segmentOfPage : ℕ → ℕ
+segmentOfPage page = page / 1024
+
+pub record SameForProcess (s : Shape) (b c : Board) (ks ls : List Call) (process : ℕ) (memory : List ℕ) : Type 0 where
+  -- our process gets the same answers and values
+  pub same-replies : repliesTo process s b ks ≡ repliesTo process s c ls
+  -- and they are those of the plain machine
+  pub plain-replies : repliesTo process s b ks ≡ plainRepliesTo process s (plainOf b memory) ks
+  -- at the end the page map is the same, and the same bytes, read through the cache, stand in every mapped page of every segment
+  -- that the process holds at any moment of the run
+  pub same-map : after s b ks .words ≡ after s c ls .words
+  pub same-bytes : (page frame line : ℕ) → everHolds s b ks process (segmentOfPage page) ≡ true
+      → mappedTo s (after s b ks .words) page ≡ At frame → line / pageLines ≡ frame
+      → look s (after s b ks) line ≡ look s (after s c ls) line
+
+-- at no moment are two cached lines copies of one physical line
+abbrev pub OneCopy : Type 0
+OneCopy = (s : Shape) (cache memory : List ℕ) (ks : List Call) → LinesOnce s (after s (fresh s cache memory) ks .store)
+
+pub record Demand3 : Type 0 where
+  pub apart : (s : Shape) (cache memory : List ℕ) (ks ls : List Call) (process : ℕ)
+      → SameFor process ks ls → Apart s (fresh s cache memory) ks process
+      → SameForProcess s (fresh s cache memory) (fresh s cache memory) ks ls process memory
+  pub one-copy : OneCopy

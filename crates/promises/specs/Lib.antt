@@ -1,0 +1,6 @@
+pub mod Plain
+pub mod Runs
+pub mod Sound
+pub mod Demand1
+pub mod Demand2
+pub mod Demand3

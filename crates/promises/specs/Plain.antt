@@ -1,0 +1,160 @@
+-- The plain machine: segment slots, a page map, a pending tag and flat memory, and no cache.
+-- Slots, page map and tag are the board's own definitions. What an access does to memory, and what map,
+-- unmap, protect, flush all and load-and-map leave, is written here from 01's text.
+use Prim.Native.Nat.{ℕ, _+_, _*_, _%_}
+use mathlib.Core.Bool.{Bool, not, _&&_, cond}
+use mathlib.Core.List.{List, [], _∷_, _++_}
+use lib.ListN.{length, getD, set, replicate}
+use Rattle.address.specs.Layout.{pageBytes, processSlots}
+use Rattle.address.specs.Addresses.{pageOf, regionOf, physicalOf}
+use Rattle.address.specs.declared.Effective.{Effective}
+use Rattle.address.specs.declared.Global.{Global}
+use Rattle.address.specs.declared.Region.{Region}
+use Rattle.address.specs.declared.Region.the-variants.{Uncached, Cached, PageTable, Ordinary}
+use Rattle.address.specs.Addresses.{attachable}
+use Rattle.board.specs.Shapes.{fitsShape}
+use Rattle.board.specs.Slots.{slotIndex, slotWord}
+use Rattle.board.specs.Pages.{frameWord, wordWrites, mappedTo}
+use Rattle.board.specs.declared.Shape.{Shape}
+use Rattle.board.specs.declared.Pending.{Pending}
+use Rattle.lines.specs.Bytes.{number, stored, lineOf, zeroedFrame}
+use Rattle.lines.specs.declared.Access.{Access}
+use Rattle.machine.specs.Boards.{noTag, tagged}
+use Rattle.machine.specs.Refusals.{Row, row, byTable, isProcess, isSlot, isPhysicalLine, isName, isGlobal, isOrdinary, isCached, isMapped, wordInUse, alignedTo, outside}
+use Rattle.machine.specs.Accesses.{userGlobal, userRows, frameUnder}
+use Rattle.machine.specs.Calls.{foundFrame, mapRows, pageRows, loadRows}
+
+-- `records` and `cache` are only the lengths of the buffers that the board has besides: number 1 asks for them
+pub record Plain : Type 0 where
+  pub slots : List ℕ
+  pub words : List ℕ
+  pub tag : Pending
+  pub memory : List ℕ
+  pub records : ℕ
+  pub cache : ℕ
+
+-- number 1, of the same numbers and lengths as the board
+abbrev pub plainRow1 : Shape → Plain → Row
+plainRow1 s p = row 1 (not (fitsShape s (length (p .slots)) (length (p .words)) (p .records) (p .cache) (length (p .memory))))
+
+-- what a call gives: a number, a value and the machine after
+pub record Given : Type 0 where
+  pub number : ℕ
+  pub value : ℕ
+  pub after : Plain
+
+abbrev pub given : ℕ → ℕ → Plain → Given
+given n v p = record { number = n; value = v; after = p }
+
+abbrev pub plainRefused : Plain → ℕ → Given
+plainRefused p n = given n 0 p
+
+abbrev pub plainDone : Plain → Given
+plainDone p = given 0 0 p
+
+-- the machine with another memory, other slots, another tag, or other words and another memory
+abbrev pub withMemory : Plain → List ℕ → Plain
+withMemory p m = record { slots = p .slots; words = p .words; tag = p .tag; memory = m; records = p .records; cache = p .cache }
+
+abbrev pub plainSlots : Plain → List ℕ → Plain
+plainSlots p slots = record { slots = slots; words = p .words; tag = p .tag; memory = p .memory; records = p .records; cache = p .cache }
+
+abbrev pub plainTag : Plain → Pending → Plain
+plainTag p t = record { slots = p .slots; words = p .words; tag = t; memory = p .memory; records = p .records; cache = p .cache }
+
+abbrev pub plainWords : Plain → List ℕ → List ℕ → Plain
+plainWords p words m = record { slots = p .slots; words = words; tag = p .tag; memory = m; records = p .records; cache = p .cache }
+
+-- ---- accesses: a load or a store of flat memory
+
+unfoldable pub plainAccess : Plain → ℕ → Access → Given
+plainAccess p at a =
+    cond (a .store)
+    (given 0 0 (withMemory p (stored (p .memory) at (a .width) (a .value))))
+    (given 0 (number (p .memory) at (a .width)) p)
+
+-- the frame that an ordinary address's page is mapped to, and where the address lies in memory
+abbrev pub addressFrame : Shape → Plain → Global → ℕ
+addressFrame s p g = foundFrame (mappedTo s (p .words) (pageOf g))
+
+abbrev pub addressAt : Shape → Plain → Global → ℕ
+addressAt s p g = addressFrame s p g * pageBytes + g .0 % pageBytes
+
+abbrev pub addressMapped : Shape → Plain → Global → Bool
+addressMapped s p g = isMapped (mappedTo s (p .words) (pageOf g))
+
+unfoldable pub plainUser : Shape → Plain → ℕ → Access → Effective → Given
+plainUser s p process a e =
+    let g = userGlobal (p .slots) process e in
+    byTable (plainRefused p)
+    (plainRow1 s p ∷ (userRows s (p .slots) (p .tag) process a e
+    ++ (row 8 (not (addressMapped s p g)) ∷ row 9 (a .store && not (wordWrites (getD (p .words) (addressFrame s p g) 0))) ∷ [])))
+    (plainAccess p (addressAt s p g) a)
+
+-- where a supervisor's address lies in memory (the page table region has been refused by row 12)
+unfoldable pub supervisorAt : Shape → Plain → Global → Region → ℕ
+supervisorAt s p g Uncached = physicalOf g .0
+supervisorAt s p g Cached = physicalOf g .0
+supervisorAt s p g PageTable = 0
+supervisorAt s p g Ordinary = addressAt s p g
+
+unfoldable pub plainSupervisor : Shape → Plain → Access → Global → Given
+plainSupervisor s p a g =
+    byTable (plainRefused p)
+    (plainRow1 s p ∷ row 2 (not (isGlobal g)) ∷ row 3 (isOrdinary (regionOf g) && p .tag .set) ∷ row 4 (not (alignedTo (a .width) (g .0)))
+    ∷ row 8 (isOrdinary (regionOf g) && not (addressMapped s p g))
+    ∷ row 10 (isCached (regionOf g) && wordInUse (p .words) (frameUnder g))
+    ∷ row 12 (outside s (frameUnder g) (regionOf g)) ∷ [])
+    (plainAccess p (supervisorAt s p g (regionOf g)) a)
+
+-- ---- the supervisor's other calls
+
+unfoldable pub plainAttach : Shape → Plain → ℕ → ℕ → ℕ → Bool → Given
+plainAttach s p process slot segment write =
+    byTable (plainRefused p)
+    (plainRow1 s p ∷ row 2 (not (isProcess s process && (isSlot slot && attachable segment))) ∷ [])
+    (plainDone (plainSlots p (set (p .slots) (slotIndex process slot) (slotWord segment write))))
+
+unfoldable pub plainDetach : Shape → Plain → ℕ → ℕ → Given
+plainDetach s p process slot =
+    byTable (plainRefused p)
+    (plainRow1 s p ∷ row 2 (not (isProcess s process && isSlot slot)) ∷ [])
+    (plainDone (plainSlots p (set (p .slots) (slotIndex process slot) 0)))
+
+-- map fills the frame with zeros and sets its word
+unfoldable pub plainMap : Shape → Plain → ℕ → ℕ → Bool → Given
+plainMap s p page frame write =
+    byTable (plainRefused p) (plainRow1 s p ∷ mapRows s (p .words) page frame)
+    (plainDone (plainWords p (set (p .words) frame (frameWord page write)) (zeroedFrame (p .memory) frame)))
+
+-- unmap sets the word to 0; the frame's bytes stay
+unfoldable pub plainUnmap : Shape → Plain → ℕ → Given
+plainUnmap s p page =
+    byTable (plainRefused p) (plainRow1 s p ∷ pageRows s (p .words) page)
+    (plainDone (plainWords p (set (p .words) (foundFrame (mappedTo s (p .words) page)) 0) (p .memory)))
+
+-- protect changes the word
+unfoldable pub plainProtect : Shape → Plain → ℕ → Bool → Given
+plainProtect s p page write =
+    byTable (plainRefused p) (plainRow1 s p ∷ pageRows s (p .words) page)
+    (plainDone (plainWords p (set (p .words) (foundFrame (mappedTo s (p .words) page)) (frameWord page write)) (p .memory)))
+
+-- flush all changes nothing: there is no cache
+unfoldable pub plainFlush : Shape → Plain → Given
+plainFlush s p = byTable (plainRefused p) (plainRow1 s p ∷ []) (plainDone p)
+
+unfoldable pub plainTagging : Shape → Plain → ℕ → Given
+plainTagging s p name =
+    byTable (plainRefused p) (plainRow1 s p ∷ row 2 (not (isName name)) ∷ row 3 (p .tag .set) ∷ []) (plainDone (plainTag p (tagged name)))
+
+-- load-and-map only clears the tag
+unfoldable pub plainLoadAndMap : Shape → Plain → ℕ → Given
+plainLoadAndMap s p line =
+    byTable (plainRefused p) (plainRow1 s p ∷ loadRows s (p .words) (p .tag) line) (plainDone (plainTag p noTag))
+
+unfoldable pub plainDropTag : Shape → Plain → Given
+plainDropTag s p = byTable (plainRefused p) (plainRow1 s p ∷ row 3 (not (p .tag .set)) ∷ []) (plainDone (plainTag p noTag))
+
+-- look: the line's bytes in flat memory; refused by 1 or 2, an empty part
+unfoldable pub plainLook : Shape → Plain → ℕ → List ℕ
+plainLook s p line = byTable (λ n. []) (plainRow1 s p ∷ row 2 (not (isPhysicalLine s line)) ∷ []) (lineOf (p .memory) line)

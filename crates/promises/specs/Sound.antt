@@ -1,0 +1,58 @@
+-- Sound boards: the rules by which a board can be checked, each with its own name.
+use Prim.Native.Nat.{ℕ, _*_, _≤_, _<_}
+use mathlib.Core.Path.{_≡_}
+use mathlib.Core.Bool.{Bool, true, false}
+use mathlib.Core.List.{List}
+use lib.ListN.{length, getD}
+use Rattle.address.specs.Addresses.{ordinaryPage}
+use Rattle.board.specs.Pages.{namesPage, homeOf}
+use Rattle.board.specs.declared.Shape.{Shape}
+use Rattle.board.specs.declared.Home.{Home}
+use Rattle.board.specs.declared.Home.the-variants.{Line}
+use Rattle.lines.specs.Bytes.{lineOf}
+use Rattle.lines.specs.Records.{lineAt}
+use Rattle.lines.specs.Stores.{Store, holdsAt}
+use Rattle.lines.specs.Reach.{current}
+use Rattle.machine.specs.Boards.{ways, Board, fitsBoard}
+use Rattle.promises.specs.Plain.{Plain}
+
+-- the lengths agree and the limits hold
+abbrev pub ShapeHolds : Shape → Board → Type 0
+ShapeHolds s b = fitsBoard s b ≡ true
+
+-- no page has two frames from U up
+abbrev pub PagesOnce : Shape → List ℕ → Type 0
+PagesOnce s words =
+    (page f g : ℕ) → ordinaryPage page ≡ true → s .uncached ≤ f → f < s .frames → s .uncached ≤ g → g < s .frames
+    → namesPage (getD words f 0) page ≡ true → namesPage (getD words g 0) page ≡ true → f ≡ g
+
+-- no physical line is held twice
+abbrev pub LinesOnce : Shape → Store → Type 0
+LinesOnce s x =
+    (i j : ℕ) → holdsAt ways s (x .records) i ≡ true → holdsAt ways s (x .records) j ≡ true
+    → lineAt (x .records) i .physical ≡ lineAt (x .records) j .physical → i ≡ j
+
+-- each held line's physical line is the one its name maps to, with that page's permission
+-- (a prefix 1 line: its frame is from U up with word 0, and it may be written; any other name maps to nothing)
+abbrev pub LinesMapped : Shape → List ℕ → Store → Type 0
+LinesMapped s words x =
+    (i : ℕ) → holdsAt ways s (x .records) i ≡ true
+    → homeOf s words (lineAt (x .records) i .name) ≡ Line (lineAt (x .records) i .physical) (lineAt (x .records) i .write)
+
+-- every unchanged held line equals memory
+abbrev pub CleanLinesEqual : Shape → Store → Type 0
+CleanLinesEqual s x =
+    (i : ℕ) → holdsAt ways s (x .records) i ≡ true → lineAt (x .records) i .changed ≡ false
+    → lineOf (x .cache) i ≡ lineOf (x .memory) (lineAt (x .records) i .physical)
+
+pub record Sound (s : Shape) (b : Board) : Type 0 where
+  pub shape-holds : ShapeHolds s b
+  pub pages-once : PagesOnce s (b .words)
+  pub lines-once : LinesOnce s (b .store)
+  pub lines-mapped : LinesMapped s (b .words) (b .store)
+  pub clean-lines-equal : CleanLinesEqual s (b .store)
+
+-- a flat memory has the bytes that the board shows at every physical line
+pub record Shows (s : Shape) (b : Board) (memory : List ℕ) : Type 0 where
+  pub same-length : length memory ≡ length (b .store .memory)
+  pub same-lines : (line : ℕ) → line < 256 * s .frames → current ways s (b .store) line ≡ lineOf memory line
