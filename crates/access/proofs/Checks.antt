@@ -1,12 +1,12 @@
 -- The checks of a user access, return by return, and what a passed check says of the width and the address.
 use Prim.Native.Nat.{ℕ, _+_, _*_, _%_, _^_, _<_, _≤_}
-use mathlib.Core.Path.{_≡_, _∙_, refl, sym}
-use mathlib.Core.Bool.{Bool, true, false, not, _&&_, _||_}
+use mathlib.Core.Path.{_≡_, _∙_, sym}
+use mathlib.Core.Bool.{Bool, true, false, not, _&&_}
 use mathlib.Core.List.{List}
 use native.Mathlib.Omega.{arith}
 use lib.ListN.{length, getD}
 use lib.Dec.{eqb, leb}
-use borrow.Author.Tests.{eqb-true, leb-true, leb-false, not-false, lt-ltb, le-ltb, ne-eqb}
+use borrow.Author.Tests.{leb-true, leb-false, not-false, lt-ltb, le-ltb, ne-eqb}
 use Rattle.address.specs.Layout.{firstSegment, lastSegment, kernelStart}
 use Rattle.address.specs.Addresses.{slotOf, globalOf, isKernels, attachable}
 use Rattle.address.specs.declared.Effective.{Effective}
@@ -14,7 +14,7 @@ use Rattle.address.specs.declared.Global.{Global}
 use Rattle.board.specs.Slots.{slotSegment, slotEmpty, slotWrites}
 use Rattle.board.specs.declared.Shape.{Shape}
 use Rattle.board.specs.declared.Pending.{Pending}
-use Rattle.board.proofs.Bools.{and-left, and-right}
+use Rattle.board.proofs.Bools.{and-right}
 use Rattle.lines.specs.Premises.{Width}
 use Rattle.lines.specs.declared.Access.{Access}
 use Rattle.machine.proofs.Alignments.{Aligned, aligned-inside}

@@ -1,82 +1,31 @@
 -- A supervisor access: the plan carried to the access's table, region by region, and return by return.
-use Prim.Native.Nat.{ℕ, _/_, _%_, _^_}
+use Prim.Native.Nat.{ℕ}
 use mathlib.Core.Path.{_≡_, _∙_, refl, sym, ap}
-use mathlib.Core.Bool.{Bool, true, false, not, _&&_, _||_, cond}
+use mathlib.Core.Bool.{Bool, true, false, not, _&&_, cond}
 use mathlib.Core.List.{List, [], _∷_}
-use native.Mathlib.Omega.{arith}
-use lib.ListN.{length, getD}
-use lib.Dec.{eqb, leb, ltb}
-use borrow.Author.Tests.{leb-false, ltb-false, eqb-true, not-false, lt-ltb, le-leb, lt-leb}
-use Rattle.address.specs.Layout.{tableBytes, tableIndex, firstPage}
-use Rattle.address.specs.Addresses.{regionOf, prefixOf, nameOf, pageOfName, physicalOf}
+use lib.ListN.{length}
+use lib.Dec.{leb}
+use Rattle.address.specs.Addresses.{regionOf, prefixOf, physicalOf}
 use Rattle.address.specs.declared.Global.{Global}
 use Rattle.address.specs.declared.Physical.{Physical}
 use Rattle.address.specs.declared.Region.{Region}
 use Rattle.address.specs.declared.Region.the-variants.{Uncached, Cached, PageTable, Ordinary}
 use Rattle.board.specs.Answers.{answer}
-use Rattle.board.specs.Pages.{mappedTo, directFrame, freeFrame, homeOf}
 use Rattle.board.specs.Shapes.{fitsShape}
 use Rattle.board.specs.declared.Answer.{Answer}
 use Rattle.board.specs.declared.Shape.{Shape}
-use Rattle.board.specs.declared.Found.{Found}
-use Rattle.board.specs.declared.Found.the-variants.{At, Nothing}
-use Rattle.board.specs.declared.Home.{Home}
-use Rattle.board.specs.declared.Home.the-variants.{Line as HomeLine}
 use Rattle.board.specs.declared.Pending.{Pending}
-use Rattle.board.proofs.Frames.{mapped-none, direct-some, home-direct}
-use Rattle.lines.specs.Reach.{wayByHome, wayBy, wayOf, unreached, mayWrite}
-use Rattle.lines.specs.Stores.{store, holderOf}
+use Rattle.lines.specs.Reach.{unreached, mayWrite}
+use Rattle.lines.specs.Stores.{store}
 use Rattle.lines.specs.declared.Access.{Access}
-use Rattle.machine.specs.Boards.{ways, Board, board, Outcome, outcome, refused}
+use Rattle.machine.specs.Boards.{Board, board, Outcome, outcome, refused}
 use Rattle.machine.specs.Refusals.{Row, row, byTable, alignedTo, isGlobal, wordInUse, isOrdinary, isCached, outside}
 use Rattle.machine.specs.Accesses.{reached, stopped, wayTo, accessed, onBoard, frameUnder, memoryAccess, supervisorTable, supervisorDone, supervisorAccess}
 use Rattle.machine.proofs.Tables.{table-map}
+use Rattle.machine.proofs.Prefixes.{region-cached, prefix-reached}
 use Rattle.access.specs.Checks.{lineAccess, target, regionPlan, waits, supervisorPlan}
 use Rattle.access.specs.declared.Plan.{Plan}
 use Rattle.access.specs.declared.Plan.the-variants.{Stop, Line, Memory}
-
--- ---- a name under prefix 1 is reached where rows 10 and 12 don't apply
-
-pick-cached : (x y z : Bool) → cond x Uncached (cond y Cached (cond z PageTable Ordinary)) ≡ Cached → y ≡ true
-pick-cached true y z e = absurd (let w : _≡_ {A = ℕ} 0 1 = cc in omega arith)
-pick-cached false true z e = refl
-pick-cached false false true e = absurd (let w : _≡_ {A = ℕ} 0 1 = cc in omega arith)
-pick-cached false false false e = absurd (let w : _≡_ {A = ℕ} 0 1 = cc in omega arith)
-
-cached-prefix : (g : Global) → regionOf g ≡ Cached → prefixOf g ≡ 1
-unfolding regionOf
-cached-prefix g e = eqb-true _ _ (pick-cached (eqb (prefixOf g) 0) (eqb (prefixOf g) 1) (eqb (g .0 / tableBytes) tableIndex) e)
-
-or-false : (x y : Bool) → (x || y) ≡ false → (x ≡ false) × (y ≡ false)
-or-false true y e = absurd (let w : _≡_ {A = ℕ} 0 1 = cc in omega arith)
-or-false false y e = (refl, e)
-
-module _ (s : Shape) (words records : List ℕ) (g : Global) (p : prefixOf g ≡ 1) where
-  -- its page is not ordinary, so the page map is not asked
-  prefix-unmapped : Nothing ≡ mappedTo s words (pageOfName (nameOf g))
-  prefix-unmapped = mapped-none s words (pageOfName (nameOf g)) false (rw (lt-leb firstPage (pageOfName (nameOf g)) (omega arith))) refl
-
-  prefix-free : wordInUse words (frameUnder g) ≡ false → outside s (frameUnder g) Cached ≡ false → freeFrame s words (directFrame (nameOf g)) ≡ true
-  unfolding outside freeFrame
-  prefix-free u o =
-      let z : directFrame (nameOf g) ≡ frameUnder g = omega arith in
-      let y = or-false (leb (s .frames) (frameUnder g)) (ltb (frameUnder g) (s .uncached)) o in
-      rw (z, le-leb _ _ (ltb-false _ _ (y .1)), lt-ltb _ _ (leb-false _ _ (y .0)), not-false (eqb (getD words (frameUnder g) 0) 0) u)
-
-  module _ (u : wordInUse words (frameUnder g) ≡ false) (o : outside s (frameUnder g) Cached ≡ false) where
-    prefix-home : HomeLine (nameOf g % 2 ^ 28) true ≡ homeOf s words (nameOf g)
-    prefix-home =
-        home-direct s words (nameOf g) Nothing prefix-unmapped _ refl
-        (direct-some s words (nameOf g) true (sym (prefix-free u o)) (omega arith) refl)
-
-    found-reached : (found : Found) → unreached (wayBy s words records (nameOf g) found) ≡ false
-    unfolding wayBy unreached wayByHome
-    found-reached (At i) = refl
-    found-reached Nothing = ap (λ (h : Home). unreached (wayByHome h)) (sym prefix-home)
-
-    prefix-reached : unreached (wayTo s words records g) ≡ false
-    unfolding wayOf
-    prefix-reached = found-reached (holderOf ways s records (nameOf g))
 
 -- ---- what follows a plan
 
@@ -131,12 +80,12 @@ module _ (s : Shape) (b : Board) (a : Access) (g : Global) where
       table-map (planned s b a) Stop (row 10 (wordInUse (b .words) (frameUnder g)) ∷ row 12 (outside s (frameUnder g) Cached) ∷ []) (Line g)
       ∙ ap (λ (d : Outcome). cond (wordInUse (b .words) (frameUnder g)) (refused b 10) (cond (outside s (frameUnder g) Cached) (refused b 12) d)) planned-line
       ∙ row-8-passed (wordInUse (b .words) (frameUnder g)) (outside s (frameUnder g) Cached) (unreached (wayTo s (b .words) (b .store .records) g))
-      (onBoard b (accessed s (b .words) g a (b .store))) (prefix-reached s (b .words) (b .store .records) g p)
+      (onBoard b (accessed s (b .words) g a (b .store))) (prefix-reached s (b .words) g p (b .store .records))
 
   rows-region : (region : Region) → regionOf g ≡ region
       → planned s b a (regionPlan s (b .words) g region) ≡ byTable (refused b) (regionRows region) (regionDone region)
   rows-region Uncached e = rows-uncached
-  rows-region Cached e = rows-cached (cached-prefix g e)
+  rows-region Cached e = rows-cached (region-cached g e)
   rows-region PageTable e = rows-table
   rows-region Ordinary e = rows-ordinary
 

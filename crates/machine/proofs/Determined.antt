@@ -1,7 +1,7 @@
 -- No second outcome satisfies a call's contract.
-use mathlib.Core.Path.{_≡_, _∙_, sym, ap}
+use mathlib.Core.Path.{_∙_, sym, ap}
 use Rattle.machine.specs.Boards.{Outcome}
-use Rattle.machine.specs.Determined.{Left, leftOutcome, Determined, NoSecondOutcome}
+use Rattle.machine.specs.Determined.{Left, Determined, NoSecondOutcome}
 
 -- what is left, read off an outcome
 left : Outcome → Left

@@ -1,9 +1,10 @@
--- Laws of refusal tables: one after another, what a passed table says, and how an outcome is carried through a table.
+-- Laws of refusal tables: one after another, what a passed table says, what holds of all that a table gives, and how an
+-- outcome is carried through a table.
 use Prim.Native.Nat.{ℕ, suc, zero}
-use mathlib.Core.Path.{_≡_, _∙_, refl, sym, ap}
-use mathlib.Core.Bool.{Bool, true, false, not, cond}
+use mathlib.Core.Path.{_≡_, refl, ap}
+use mathlib.Core.Bool.{Bool, true, false, cond}
 use mathlib.Core.List.{List, [], _∷_, _++_}
-use native.Mathlib.Omega.{arith}
+use lib.ListN.{getD}
 use Rattle.machine.specs.Refusals.{Row, row, byTable}
 
 module _ {A : Type 0} (refuse : ℕ → A) where
@@ -40,3 +41,28 @@ module _ {A : Type 0} (refuse : ℕ → A) (n : ℕ) where
       → (t ≡ false) × (byTable refuse rows done ≡ x)
   unfolding byTable
   table-passed t rows done x other e = cond-passed t (byTable refuse rows done) x other e
+
+-- no row of a table applies, row by row from 0
+abbrev pub Passed : List Row → Type 0
+Passed rows = (i : ℕ) → getD rows i (row 0 false) .applies ≡ false
+
+pub passed-more : (r : Row) (rows : List Row) → r .applies ≡ false → Passed rows → Passed (r ∷ rows)
+passed-more r rows e q zero = e
+passed-more r rows e q (suc i) = q i
+
+-- two tables of the same rows: what holds of the refusals, and of what is done where no row applies, holds of what they give
+pub table-both : {A B : Type 0} (R : A → B → Type 0) (f : ℕ → A) (g : ℕ → B) → ((n : ℕ) → R (f n) (g n)) → (rows : List Row) (x : A) (y : B)
+    → (Passed rows → R x y) → R (byTable f rows x) (byTable g rows y)
+unfolding byTable
+table-both R f g refusals [] x y h = h (λ i. refl)
+table-both R f g refusals (r ∷ rows) x y h = go (r .applies) refl (table-both R f g refusals rows x y)
+  where
+    go : (t : Bool) → r .applies ≡ t → ((Passed rows → R x y) → R (byTable f rows x) (byTable g rows y))
+        → R (cond t (f (r .number)) (byTable f rows x)) (cond t (g (r .number)) (byTable g rows y))
+    go true e later = refusals (r .number)
+    go false e later = later (λ q. h (passed-more r rows e q))
+
+-- the same of one table
+pub table-cases : {A : Type 0} (P : A → Type 0) (refuse : ℕ → A) → ((n : ℕ) → P (refuse n)) → (rows : List Row) (done : A) → (Passed rows → P done)
+    → P (byTable refuse rows done)
+table-cases P refuse refuses rows done = table-both (λ x y. P x) refuse refuse refuses rows done done

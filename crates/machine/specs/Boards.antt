@@ -1,14 +1,16 @@
 -- 01, "The board": what a call reads and changes, and what it gives.
 use Prim.Native.Nat.{ℕ, _*_}
+use mathlib.Core.Path.{_≡_}
 use mathlib.Core.Bool.{Bool, true, false}
 use mathlib.Core.List.{List}
-use lib.ListN.{length, replicate}
+use lib.ListN.{length, getD, replicate}
 use Rattle.address.specs.Layout.{processSlots}
 use Rattle.board.specs.Shapes.{fitsShape, recordWords}
 use Rattle.board.specs.Answers.{answer}
 use Rattle.board.specs.declared.Shape.{Shape}
 use Rattle.board.specs.declared.Pending.{Pending}
 use Rattle.board.specs.declared.Answer.{Answer}
+use Rattle.lines.specs.Records.{lineAt}
 use Rattle.lines.specs.Stores.{Store, store}
 
 -- the lines in a set: one in the base
@@ -37,7 +39,14 @@ noTag = record { set = false; name = 0 }
 abbrev pub tagged : ℕ → Pending
 tagged name = record { set = true; name = name }
 
--- fresh: slots and frame words 0, records not valid, nothing pending, memory and cache any bytes
+-- fresh: slots and frame words 0, records not valid, nothing pending, memory (and cache) any bytes
+pub record Fresh (b : Board) : Type 0 where
+  pub no-slot : (i : ℕ) → getD (b .slots) i 0 ≡ 0
+  pub no-word : (frame : ℕ) → getD (b .words) frame 0 ≡ 0
+  pub no-line : (i : ℕ) → lineAt (b .store .records) i .valid ≡ false
+  pub no-tag : b .tag .set ≡ false
+
+-- a fresh board of a shape, all zeros but the bytes
 abbrev pub fresh : Shape → List ℕ → List ℕ → Board
 fresh s cache memory = board (replicate (s .processes * processSlots) 0) (replicate (s .frames) 0) (replicate (recordWords * s .lines) 0) cache memory noTag
 

@@ -1,4 +1,4 @@
--- Demand 3 on the plain machine: what one process gets does not depend on the accesses of the others.
+-- Demand 3 on the plain machine: what one process gets does not depend on the accesses of the others. Stands on Views.
 use Prim.Native.Nat.{ℕ, _/_, _<_}
 use mathlib.Core.Path.{_≡_, refl, sym, ap, _∙_}
 use mathlib.Core.Bool.{Bool, true, false, _||_, cond}
@@ -8,10 +8,11 @@ use borrow.Author.Tests.{eqb-true, eqb-false}
 use Rattle.board.specs.Pages.{mappedTo}
 use Rattle.board.specs.declared.Shape.{Shape}
 use Rattle.board.specs.declared.Found.the-variants.{At}
+use Rattle.board.proofs.Bools.{or-left, or-right}
 use Rattle.promises.specs.Plain.{Plain, plainLook}
 use Rattle.promises.specs.Runs.{Call, user, supervisor, plainReply, plainStep, plainAfter}
 use Rattle.promises.specs.Demand3.{holds, holdsForWriting, withoutOthers, SameFor, plainRepliesTo, segmentOfPage}
-use Rattle.promises.proofs.Views.{Alike, step-alike, aside-alike, reply-alike, look-alike, slots-alike, words-alike, alike-same, or-left, or-right}
+use Rattle.promises.proofs.Views.{AlikeIn, alike-step, alike-aside, alike-reply, alike-look, alike-slots, alike-words, alike-same}
 
 -- ---- what is held at some moment of a plain run
 
@@ -36,6 +37,17 @@ pub record PlainSame (s : Shape) (p : Plain) (ks ls : List Call) (process : ℕ)
 
 -- ---- moments
 
+or-self : (a : Bool) → (a || a) ≡ a
+or-self true = refl
+or-self false = refl
+
+or-twice : (a b : Bool) → (a || (a || b)) ≡ (a || b)
+or-twice true b = refl
+or-twice false b = refl
+
+abbrev NoSegment : ℕ → Bool
+NoSegment segment = false
+
 module _ (test : List ℕ → Bool) (s : Shape) where
   ever-now : (p : Plain) (ks : List Call) → test (p .slots) ≡ true → plainEver test s p ks ≡ true
   unfolding plainEver
@@ -46,51 +58,40 @@ module _ (test : List ℕ → Bool) (s : Shape) where
   unfolding plainEver
   ever-later p k ks h = or-right (test (p .slots)) (plainEver test s (plainStep s p k .after) ks) h
 
-  or-self : (a : Bool) → (a || a) ≡ a
-  or-self true = refl
-  or-self false = refl
-
-  or-twice : (a b : Bool) → (a || (a || b)) ≡ (a || b)
-  or-twice true b = refl
-  or-twice false b = refl
-
   -- the first moment counts once
   ever-again : (p : Plain) (ks : List Call) → (test (p .slots) || plainEver test s p ks) ≡ plainEver test s p ks
   unfolding plainEver
   ever-again p [] = or-self (test (p .slots))
   ever-again p (k ∷ ks) = or-twice (test (p .slots)) (plainEver test s (plainStep s p k .after) ks)
 
-  abbrev Nowhere : ℕ → Bool
-  Nowhere segment = false
-
   -- the accesses of others change no slots, words or tag, so they make no moment
-  pub ever-without : (process : ℕ) (p q : Plain) (ks : List Call) → Alike Nowhere s p q → plainEver test s p ks ≡ plainEver test s q (withoutOthers process ks)
+  ever-without : (process : ℕ) (p q : Plain) (ks : List Call) → AlikeIn NoSegment s p q → plainEver test s p ks ≡ plainEver test s q (withoutOthers process ks)
   unfolding plainEver withoutOthers
-  ever-without process p q [] h = rw (slots-alike Nowhere s p q h)
+  ever-without process p q [] h = rw (alike-slots NoSegment s p q h)
   ever-without process p q (supervisor c ∷ ks) h =
-      let later = ever-without process (plainStep s p (supervisor c) .after) (plainStep s q (supervisor c) .after) ks (step-alike Nowhere s p q h (supervisor c)) in
-      rw (later, slots-alike Nowhere s p q h)
+      let later = ever-without process (plainStep s p (supervisor c) .after) (plainStep s q (supervisor c) .after) ks (alike-step NoSegment s p q h (supervisor c)) in
+      rw (later, alike-slots NoSegment s p q h)
   ever-without process p q (user u a e ∷ ks) h =
       go (eqb u process)
-      (ever-without process (plainStep s p (user u a e) .after) (plainStep s q (user u a e) .after) ks (step-alike Nowhere s p q h (user u a e)))
-      (ever-without process (plainStep s p (user u a e) .after) q ks (aside-alike Nowhere s p q h u a e (λ segment b c. refl)))
+      (ever-without process (plainStep s p (user u a e) .after) (plainStep s q (user u a e) .after) ks (alike-step NoSegment s p q h (user u a e)))
+      (ever-without process (plainStep s p (user u a e) .after) q ks (alike-aside NoSegment s p q h u a e (λ segment b c. refl)))
     where
       go : (t : Bool) → plainEver test s (plainStep s p (user u a e) .after) ks ≡ plainEver test s (plainStep s q (user u a e) .after) (withoutOthers process ks)
           → plainEver test s (plainStep s p (user u a e) .after) ks ≡ plainEver test s q (withoutOthers process ks)
           → (test (p .slots) || plainEver test s (plainStep s p (user u a e) .after) ks) ≡ plainEver test s q (cond t (user u a e ∷ withoutOthers process ks) (withoutOthers process ks))
-      go true both one = rw (both, slots-alike Nowhere s p q h)
-      go false both one = rw (one, slots-alike Nowhere s p q h) (ever-again q (withoutOthers process ks))
+      go true both one = rw (both, alike-slots NoSegment s p q h)
+      go false both one = rw (one, alike-slots NoSegment s p q h) (ever-again q (withoutOthers process ks))
 
-  pub ever-same : (process : ℕ) (p : Plain) (ks ls : List Call) → SameFor process ks ls → plainEver test s p ks ≡ plainEver test s p ls
+  ever-same : (process : ℕ) (p : Plain) (ks ls : List Call) → SameFor process ks ls → plainEver test s p ks ≡ plainEver test s p ls
   ever-same process p ks ls e =
-      ever-without process p p ks (alike-same Nowhere s p) ∙ ap (plainEver test s p) e ∙ sym (ever-without process p p ls (alike-same Nowhere s p))
+      ever-without process p p ks (alike-same NoSegment s p) ∙ ap (plainEver test s p) e ∙ sym (ever-without process p p ls (alike-same NoSegment s p))
 
 -- ---- a run, and the run without the accesses of the others
 
 -- what the process holds is in S, and what another process holds for writing is not
-pub record Split (S : ℕ → Bool) (s : Shape) (p : Plain) (ks : List Call) (process : ℕ) : Type 0 where
-  pub own : (segment : ℕ) → plainEver (λ slots. holds slots process segment) s p ks ≡ true → S segment ≡ true
-  pub foreign : (segment other : ℕ) → other < s .processes → (other ≡ process → ⊥)
+record Split (S : ℕ → Bool) (s : Shape) (p : Plain) (ks : List Call) (process : ℕ) : Type 0 where
+  own : (segment : ℕ) → plainEver (λ slots. holds slots process segment) s p ks ≡ true → S segment ≡ true
+  foreign : (segment other : ℕ) → other < s .processes → (other ≡ process → ⊥)
       → plainEver (λ slots. holdsForWriting slots other segment) s p ks ≡ true → S segment ≡ false
 
 split-later : (S : ℕ → Bool) (s : Shape) (p : Plain) (k : Call) (ks : List Call) (process : ℕ) → Split S s p (k ∷ ks) process → Split S s (plainStep s p k .after) ks process
@@ -99,16 +100,16 @@ split-later S s p k ks process h = record {
   foreign = λ segment other b d e. h .foreign segment other b d (ever-later (λ slots. holdsForWriting slots other segment) s p k ks e);
 }
 
-pub record Without (S : ℕ → Bool) (s : Shape) (process : ℕ) (p q : Plain) (ks : List Call) : Type 0 where
-  pub replies : plainRepliesTo process s p ks ≡ plainRepliesTo process s q (withoutOthers process ks)
-  pub ends : Alike S s (plainAfter s p ks) (plainAfter s q (withoutOthers process ks))
+record Without (S : ℕ → Bool) (s : Shape) (process : ℕ) (p q : Plain) (ks : List Call) : Type 0 where
+  replies : plainRepliesTo process s p ks ≡ plainRepliesTo process s q (withoutOthers process ks)
+  ends : AlikeIn S s (plainAfter s p ks) (plainAfter s q (withoutOthers process ks))
 
 module _ (S : ℕ → Bool) (s : Shape) (process : ℕ) where
-  pub without : (p q : Plain) (ks : List Call) → Alike S s p q → Split S s p ks process → Without S s process p q ks
+  without : (p q : Plain) (ks : List Call) → AlikeIn S s p q → Split S s p ks process → Without S s process p q ks
   unfolding plainRepliesTo plainAfter withoutOthers
   without p q [] h k = record { replies = refl; ends = h }
   without p q (supervisor c ∷ ks) h k =
-      let later = without (plainStep s p (supervisor c) .after) (plainStep s q (supervisor c) .after) ks (step-alike S s p q h (supervisor c))
+      let later = without (plainStep s p (supervisor c) .after) (plainStep s q (supervisor c) .after) ks (alike-step S s p q h (supervisor c))
       (split-later S s p (supervisor c) ks process k) in
       record { replies = later .replies; ends = later .ends }
   without p q (user u a e ∷ ks) h k =
@@ -124,16 +125,16 @@ module _ (S : ℕ → Bool) (s : Shape) (process : ℕ) where
       foreign : (u ≡ process → ⊥) → (segment : ℕ) → u < s .processes → holdsForWriting (p .slots) u segment ≡ true → S segment ≡ false
       foreign z segment b i = k .foreign segment u b z (ever-now (λ slots. holdsForWriting slots u segment) s p (user u a e ∷ ks) i)
 
-      go : (t : Bool) → eqb u process ≡ t → ((x y : Plain) → Alike S s x y → Split S s x ks process → Without S s process x y ks)
+      go : (t : Bool) → eqb u process ≡ t → ((x y : Plain) → AlikeIn S s x y → Split S s x ks process → Without S s process x y ks)
           → (cond t (plainReply (plainStep s p (user u a e)) ∷ plainRepliesTo process s (plainStep s p (user u a e) .after) ks) (plainRepliesTo process s (plainStep s p (user u a e) .after) ks)
           ≡ plainRepliesTo process s q (cond t (user u a e ∷ withoutOthers process ks) (withoutOthers process ks)))
-          × Alike S s (plainAfter s (plainStep s p (user u a e) .after) ks) (plainAfter s q (cond t (user u a e ∷ withoutOthers process ks) (withoutOthers process ks)))
+          × AlikeIn S s (plainAfter s (plainStep s p (user u a e) .after) ks) (plainAfter s q (cond t (user u a e ∷ withoutOthers process ks) (withoutOthers process ks)))
       go true t later =
-          let r = later (plainStep s p (user u a e) .after) (plainStep s q (user u a e) .after) (step-alike S s p q h (user u a e)) rest in
-          let m = reply-alike S s p q h u a e (own (eqb-true u process t)) in
+          let r = later (plainStep s p (user u a e) .after) (plainStep s q (user u a e) .after) (alike-step S s p q h (user u a e)) rest in
+          let m = alike-reply S s p q h u a e (own (eqb-true u process t)) in
           (rw (t, m, r .replies), r .ends)
       go false t later =
-          let r = later (plainStep s p (user u a e) .after) q (aside-alike S s p q h u a e (foreign (eqb-false u process t))) rest in
+          let r = later (plainStep s p (user u a e) .after) q (alike-aside S s p q h u a e (foreign (eqb-false u process t))) rest in
           (r .replies, r .ends)
 
 -- ---- demand 3 on the plain machine
@@ -172,19 +173,19 @@ module _ (s : Shape) (p : Plain) (ks ls : List Call) (process : ℕ) (same : Sam
   abbrev Common : Plain
   Common = plainAfter s p (withoutOthers process ks)
 
-  second-ends : Alike Held s (End ls) Common
+  second-ends : AlikeIn Held s (End ls) Common
   second-ends = rw same (second .ends)
 
   ends-words : End ks .words ≡ End ls .words
-  ends-words = words-alike Held s (End ks) Common (first .ends) ∙ sym (words-alike Held s (End ls) Common second-ends)
+  ends-words = alike-words Held s (End ks) Common (first .ends) ∙ sym (alike-words Held s (End ls) Common second-ends)
 
   ends-same : PlainSame s p ks ls process
   ends-same = record {
     same-replies = first .replies ∙ ap (plainRepliesTo process s p) same ∙ sym (second .replies);
     same-words = ends-words;
     same-bytes = λ page frame line i e l.
-        look-alike Held s (End ks) Common (first .ends) page frame line i e l
-        ∙ sym (look-alike Held s (End ls) Common second-ends page frame line i (rw ends-words at e) l);
+        alike-look Held s (End ks) Common (first .ends) page frame line i e l
+        ∙ sym (alike-look Held s (End ls) Common second-ends page frame line i (rw ends-words at e) l);
   }
 
 pub plain-apart : (s : Shape) (p : Plain) (ks ls : List Call) (process : ℕ) → SameFor process ks ls → PlainApart s p ks process → PlainSame s p ks ls process

@@ -1,77 +1,39 @@
 -- Demand 1, from one law of rising tables: the first row that applies is the lowest, and what a table gives is
--- either the refusal of that row or, where no row applies, what is done.
-use Prim.Native.Nat.{ℕ, zero, suc, _/_, _%_, _≤_}
-use mathlib.Core.Path.{_≡_, refl, sym, ap}
+-- either the refusal of that row or, where no row applies, what is done. Stands on the laws of `machine` only.
+use Prim.Native.Nat.{ℕ, zero, suc, _%_, _≤_}
+use mathlib.Core.Path.{_≡_, refl}
 use mathlib.Core.Bool.{Bool, true, false, _&&_, _||_, cond}
 use mathlib.Core.List.{List, [], _∷_}
 use native.Mathlib.Omega.{arith}
-use lib.ListN.{getD}
-use lib.Dec.{eqb, leb, ltb}
-use borrow.Author.Tests.{eqb-true, eq-eqb, leb-true, leb-false, le-leb, lt-leb, ltb-false, lt-ltb, not-false}
-use Rattle.address.specs.Addresses.{prefixOf, nameOf, regionOf, physicalOf, pageOfName}
-use Rattle.address.specs.Layout.{prefixLines, firstPage, tableIndex, tableBytes}
+use lib.Dec.{eqb, leb}
+use borrow.Author.Tests.{eqb-true, eq-eqb, leb-true}
+use Rattle.machine.specs.Looks.{lookTable, lookNumber, look}
+use Rattle.address.specs.Addresses.{nameOf, regionOf, physicalOf}
 use Rattle.address.specs.declared.Effective.{Effective}
 use Rattle.address.specs.declared.Global.{Global}
 use Rattle.address.specs.declared.Physical.{Physical}
 use Rattle.address.specs.declared.Region.{Region}
 use Rattle.address.specs.declared.Region.the-variants.{Uncached, Cached, PageTable, Ordinary}
-use Rattle.board.specs.Pages.{mappedTo, freeFrame, directFrame, homeOf}
 use Rattle.board.specs.declared.Shape.{Shape}
-use Rattle.board.specs.declared.Found.{Found}
-use Rattle.board.specs.declared.Found.the-variants.{At, Nothing}
-use Rattle.board.specs.declared.Home.{Home}
-use Rattle.board.specs.declared.Home.the-variants.{Line}
-use Rattle.board.proofs.Bools.{and-left, and-right}
-use Rattle.board.proofs.Frames.{mapped-none, direct-some, home-direct}
-use Rattle.lines.specs.Stores.{Store, holderOf}
-use Rattle.lines.specs.Reach.{wayByHome, wayBy, wayOf, unreached}
+use Rattle.board.proofs.Bools.{clash, and-left, and-right, cond-both}
+use Rattle.lines.specs.Stores.{Store}
+use Rattle.lines.specs.Reach.{unreached}
 use Rattle.lines.specs.declared.Access.{Access}
 use Rattle.lines.specs.declared.Way.{Way}
 use Rattle.lines.specs.declared.Way.the-variants.{Held, InMemory, Missing}
-use Rattle.machine.specs.Boards.{ways, Board, Outcome, refused}
-use Rattle.machine.specs.Refusals.{Row, row, byTable, outside, wordInUse, isOrdinary, isCached}
+use Rattle.machine.specs.Boards.{Board, Outcome, refused}
+use Rattle.machine.specs.Refusals.{Row, byTable, outside, wordInUse, isOrdinary, isCached}
 use Rattle.machine.specs.Accesses.{Reached, accessedBy, accessed, performedOn, wayTo, userGlobal, userTable, userAccess, frameUnder, supervisorTable, memoryAccess, supervisorDone, supervisorAccess}
 use Rattle.machine.specs.Calls as board
+use Rattle.machine.proofs.Tables.{Passed, passed-more, table-both}
+use Rattle.machine.proofs.Prefixes.{region-cached, prefix-reached}
 use Rattle.promises.specs.Runs.{Supervisor, access, attach, detach, map, unmap, protect, flushAll, tag, loadAndMap, dropTag, Call, user, supervisor, supervise, step}
-use Rattle.promises.specs.Demand1.{supervisorRows, rowsOf, appliesIn, Lowest, Demand1}
+use Rattle.promises.specs.Demand1.{supervisorRows, rowsOf, appliesIn, Lowest, Demand1, LookRefusals}
 
--- true is not false
-pub clash : {A : Type 0} (t : Bool) → t ≡ true → t ≡ false → A
-clash t e f = absurd (let z : _≡_ {A = ℕ} 0 1 = cc in omega arith)
-
-pub or-false : (a b : Bool) → (a || b) ≡ false → (a ≡ false) × (b ≡ false)
-or-false true b e = clash true refl e
-or-false false b e = (refl, e)
-
--- what holds of both choices
-pub cond-both : {A : Type 0} (P : A → Type 0) (t : Bool) (x y : A) → P x → P y → P (cond t x y)
-cond-both P true x y p q = p
-cond-both P false x y p q = q
-
--- ---- what a table gives
-
--- whether row i applies
-abbrev pub appliesAt : List Row → ℕ → Bool
-appliesAt rows i = getD rows i (row 0 false) .applies
-
-row-more : (r : Row) (rows : List Row) → r .applies ≡ false → ((i : ℕ) → appliesAt rows i ≡ false) → (i : ℕ) → appliesAt (r ∷ rows) i ≡ false
-row-more r rows e q zero = e
-row-more r rows e q (suc i) = q i
-
-module _ {A : Type 0} (P : A → Type 0) (refuse : ℕ → A) (refuses : (n : ℕ) → P (refuse n)) where
-  -- what holds of each refusal, and of what is done if no row applies, holds of what the table gives
-  pub table-cases : (rows : List Row) (done : A) → (((i : ℕ) → appliesAt rows i ≡ false) → P done) → P (byTable refuse rows done)
-  unfolding byTable
-  table-cases [] done p = p (λ i. refl)
-  table-cases (r ∷ rows) done p = go (r .applies) refl (table-cases rows done)
-    where
-      go : (t : Bool) → r .applies ≡ t → ((((i : ℕ) → appliesAt rows i ≡ false) → P done) → P (byTable refuse rows done))
-          → P (cond t (refuse (r .number)) (byTable refuse rows done))
-      go true e later = refuses (r .number)
-      go false e later = later (λ q. p (row-more r rows e q))
+-- ---- rising tables
 
 -- the numbers of a table's rows rise, from `from` up
-unfoldable pub rising : ℕ → List Row → Bool
+unfoldable rising : ℕ → List Row → Bool
 rising from [] = true
 rising from (r ∷ rows) = leb from (r .number) && rising (suc (r .number)) rows
 
@@ -79,7 +41,7 @@ row-number : (a : Bool) (m n : ℕ) → (a && eqb m n) ≡ true → m ≡ n
 row-number a m n e = eqb-true m n (and-right a (eqb m n) e)
 
 -- a number that applies is not below the first
-pub rising-from : (rows : List Row) (from k : ℕ) → rising from rows ≡ true → appliesIn rows k ≡ true → from ≤ k
+rising-from : (rows : List Row) (from k : ℕ) → rising from rows ≡ true → appliesIn rows k ≡ true → from ≤ k
 unfolding rising appliesIn
 rising-from [] from k h e = clash false e refl
 rising-from (r ∷ rows) from k h e =
@@ -90,15 +52,15 @@ rising-from (r ∷ rows) from k h e =
     go false q e later = omega (arith, later e, leb-true from (r .number) (and-left (leb from (r .number)) _ h))
 
 -- what a rising table gives: what is done, if no row applies; else the refusal of the lowest row that applies
-pub data Tabled {A : Type 0} (refuse : ℕ → A) (from : ℕ) (rows : List Row) (done : A) : A → Type 0 where
-  passed : ((k : ℕ) → appliesIn rows k ≡ false) → ((i : ℕ) → appliesAt rows i ≡ false) → Tabled refuse from rows done done
+data Tabled {A : Type 0} (refuse : ℕ → A) (from : ℕ) (rows : List Row) (done : A) : A → Type 0 where
+  passed : ((k : ℕ) → appliesIn rows k ≡ false) → Passed rows → Tabled refuse from rows done done
   stopped : (n : ℕ) → from ≤ n → appliesIn rows n ≡ true → ((k : ℕ) → appliesIn rows k ≡ true → n ≤ k) → Tabled refuse from rows done (refuse n)
 
 module _ {A : Type 0} (refuse : ℕ → A) (done : A) where
   more : (from : ℕ) (r : Row) (rows : List Row) (x : A) → from ≤ r .number → r .applies ≡ false → Tabled refuse (suc (r .number)) rows done x
       → Tabled refuse from (r ∷ rows) done x
   unfolding appliesIn
-  more from r rows x h e (passed p q) = passed (λ k. rw e (p k)) (row-more r rows e q)
+  more from r rows x h e (passed p q) = passed (λ k. rw e (p k)) (passed-more r rows e q)
   more from r rows x h e (stopped n l a low) = stopped n (omega arith) (rw e a) (λ k q. low k (rw e at q))
 
   first : (from : ℕ) (r : Row) (rows : List Row) → from ≤ r .number → rising (suc (r .number)) rows ≡ true → r .applies ≡ true
@@ -113,7 +75,7 @@ module _ {A : Type 0} (refuse : ℕ → A) (done : A) where
       low : (k : ℕ) → (eqb (r .number) k || appliesIn rows k) ≡ true → r .number ≤ k
       low k q = go k (eqb (r .number) k) refl q
 
-  pub tabled : (from : ℕ) (rows : List Row) → rising from rows ≡ true → Tabled refuse from rows done (byTable refuse rows done)
+  tabled : (from : ℕ) (rows : List Row) → rising from rows ≡ true → Tabled refuse from rows done (byTable refuse rows done)
   unfolding byTable rising appliesIn
   tabled from [] h = passed (λ k. refl) (λ i. refl)
   tabled from (r ∷ rows) h = go (r .applies) refl (tabled (suc (r .number)) rows up)
@@ -129,13 +91,18 @@ module _ {A : Type 0} (refuse : ℕ → A) (done : A) where
       go true e later = first from r rows low up e
       go false e later = more from r rows (byTable refuse rows done) low e later
 
+-- a table that answers numbers alone
+number-lowest : (rows : List Row) (n : ℕ) → Tabled (λ k. k) 1 rows 0 n → Lowest rows n
+number-lowest rows n (passed p q) = record { none-applies = λ e k. p k; applies = λ e. absurd (e refl); lowest = λ k e. omega arith }
+number-lowest rows n (stopped k l a low) = record { none-applies = λ e. absurd (omega arith); applies = λ e. a; lowest = low }
+
 -- ---- the demand of one outcome
 
-pub record Told (b : Board) (rows : List Row) (o : Outcome) : Type 0 where
-  pub number-is-lowest : Lowest rows (o .answer .number)
-  pub nothing-changed : (o .answer .number ≡ 0 → ⊥) → o ≡ refused b (o .answer .number)
+record Told (b : Board) (rows : List Row) (o : Outcome) : Type 0 where
+  number-is-lowest : Lowest rows (o .answer .number)
+  nothing-changed : (o .answer .number ≡ 0 → ⊥) → o ≡ refused b (o .answer .number)
 
-module _ (b : Board) (rows : List Row) (d : Outcome) (zero : ((i : ℕ) → appliesAt rows i ≡ false) → d .answer .number ≡ 0) where
+module _ (b : Board) (rows : List Row) (d : Outcome) (zero : Passed rows → d .answer .number ≡ 0) where
   tabled-told : (o : Outcome) → Tabled (refused b) 1 rows d o → Told b rows o
   tabled-told o (passed p q) =
       let z = zero q in
@@ -158,48 +125,10 @@ module _ (b : Board) (rows : List Row) (d : Outcome) (zero : ((i : ℕ) → appl
       }
 
   -- a rising table whose numbers start at 1, and what is done has number 0
-  pub told : rising 1 rows ≡ true → Told b rows (byTable (refused b) rows d)
+  told : rising 1 rows ≡ true → Told b rows (byTable (refused b) rows d)
   told h = tabled-told _ (tabled (refused b) d 1 rows h)
 
 -- ---- what is done has number 0
-
--- (down to prefix-reached as in the proofs of the crate `access`, which this crate does not read)
-pick-cached : (x y z : Bool) → cond x Uncached (cond y Cached (cond z PageTable Ordinary)) ≡ Cached → y ≡ true
-pick-cached true y z e = absurd (let w : _≡_ {A = ℕ} 0 1 = cc in omega arith)
-pick-cached false true z e = refl
-pick-cached false false true e = absurd (let w : _≡_ {A = ℕ} 0 1 = cc in omega arith)
-pick-cached false false false e = absurd (let w : _≡_ {A = ℕ} 0 1 = cc in omega arith)
-
-pub cached-prefix : (g : Global) → regionOf g ≡ Cached → prefixOf g ≡ 1
-unfolding regionOf
-cached-prefix g e = eqb-true _ _ (pick-cached (eqb (prefixOf g) 0) (eqb (prefixOf g) 1) (eqb (g .0 / tableBytes) tableIndex) e)
-
-module _ (s : Shape) (words records : List ℕ) (g : Global) (p : prefixOf g ≡ 1) where
-  -- its page is not ordinary, so the page map is not asked
-  pub prefix-unmapped : Nothing ≡ mappedTo s words (pageOfName (nameOf g))
-  prefix-unmapped = mapped-none s words (pageOfName (nameOf g)) false (rw (lt-leb firstPage (pageOfName (nameOf g)) (omega arith))) refl
-
-  prefix-free : wordInUse words (frameUnder g) ≡ false → outside s (frameUnder g) Cached ≡ false → freeFrame s words (directFrame (nameOf g)) ≡ true
-  unfolding outside freeFrame
-  prefix-free u o =
-      let z : directFrame (nameOf g) ≡ frameUnder g = omega arith in
-      let y = or-false (leb (s .frames) (frameUnder g)) (ltb (frameUnder g) (s .uncached)) o in
-      rw (z, le-leb (s .uncached) (frameUnder g) (ltb-false _ _ (y .1)), lt-ltb (frameUnder g) (s .frames) (leb-false _ _ (y .0)), not-false (eqb (getD words (frameUnder g) 0) 0) u)
-
-  module _ (u : wordInUse words (frameUnder g) ≡ false) (o : outside s (frameUnder g) Cached ≡ false) where
-    pub prefix-home : Line (nameOf g % prefixLines) true ≡ homeOf s words (nameOf g)
-    prefix-home =
-        home-direct s words (nameOf g) Nothing prefix-unmapped _ refl
-        (direct-some s words (nameOf g) true (sym (prefix-free u o)) (omega arith) refl)
-
-    found-reached : (found : Found) → unreached (wayBy s words records (nameOf g) found) ≡ false
-    unfolding wayBy unreached wayByHome
-    found-reached (At i) = refl
-    found-reached Nothing = ap (λ (h : Home). unreached (wayByHome h)) (sym prefix-home)
-
-    pub prefix-reached : unreached (wayTo s words records g) ≡ false
-    unfolding wayOf
-    prefix-reached = found-reached (holderOf ways s records (nameOf g))
 
 -- an access to a line that is reached
 module _ (s : Shape) (words : List ℕ) (g : Global) (a : Access) (b : Store) where
@@ -209,7 +138,7 @@ module _ (s : Shape) (words : List ℕ) (g : Global) (a : Access) (b : Store) wh
   accessed-by-zero name offset (InMemory line write) h = refl
   accessed-by-zero name offset Missing h = clash true refl h
 
-  pub accessed-zero : unreached (wayTo s words (b .records) g) ≡ false → accessed s words g a b .answer .number ≡ 0
+  accessed-zero : unreached (wayTo s words (b .records) g) ≡ false → accessed s words g a b .answer .number ≡ 0
   unfolding accessed
   accessed-zero h = accessed-by-zero (nameOf g) (g .0 % 16) (wayTo s words (b .records) g) h
 
@@ -221,12 +150,12 @@ module _ (s : Shape) (words : List ℕ) (g : Global) (a : Access) (b : Store) wh
   unfolding memoryAccess
   memory-zero p = cond-both (λ (r : Reached). r .answer .number ≡ 0) (a .store) _ _ refl refl
 
-  pub supervisor-zero : (r : Region) → regionOf g ≡ r → (isOrdinary r && unreached (wayTo s words (b .records) g)) ≡ false
+  supervisor-zero : (r : Region) → regionOf g ≡ r → (isOrdinary r && unreached (wayTo s words (b .records) g)) ≡ false
       → (isCached r && wordInUse words (frameUnder g)) ≡ false → outside s (frameUnder g) r ≡ false
       → supervisorDone s words a g b r .answer .number ≡ 0
   unfolding supervisorDone isOrdinary isCached
   supervisor-zero Uncached e x y z = memory-zero (physicalOf g)
-  supervisor-zero Cached e x y z = accessed-zero (prefix-reached s words (b .records) g (cached-prefix g e) y z)
+  supervisor-zero Cached e x y z = accessed-zero (prefix-reached s words g (region-cached g e) (b .records) y z)
   supervisor-zero PageTable e x y z = clash _ (outside-table (frameUnder g)) z
   supervisor-zero Ordinary e x y z = accessed-zero x
 
@@ -261,7 +190,16 @@ module _ (s : Shape) (b : Board) where
   told-call (user process a e) = told-user process a e
   told-call (supervisor c) = told-supervisor c
 
+  told-look : (line : ℕ) → LookRefusals s b line
+  unfolding lookNumber look rising
+  told-look line =
+      record {
+        number-is-lowest = number-lowest (lookTable s b line) _ (tabled (λ n. n) 0 1 (lookTable s b line) refl);
+        nothing-given = table-both (λ n l. (n ≡ 0 → ⊥) → l ≡ []) (λ n. n) (λ n. []) (λ n h. refl) (lookTable s b line) 0 _ (λ p h. absurd (h refl));
+      }
+
 pub demand1 : Demand1
-demand1 s b k =
-    let t = told-call s b k in
-    record { number-is-lowest = t .number-is-lowest; nothing-changed = t .nothing-changed }
+demand1 = record {
+  calls = λ s b k. let t = told-call s b k in record { number-is-lowest = t .number-is-lowest; nothing-changed = t .nothing-changed };
+  looks = told-look;
+}

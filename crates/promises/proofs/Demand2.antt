@@ -1,40 +1,32 @@
 -- Demand 2: the board is the plain machine, from a fresh board and from any sound one.
-use Prim.Native.Nat.{ℕ, _+_, _*_, _/_, _≤_, _<_}
-use mathlib.Core.Path.{_≡_, refl, sym, ap, _∙_}
-use mathlib.Core.Bool.{Bool, true, false, not, _&&_, cond}
-use mathlib.Core.List.{List, [], _∷_}
-use native.Mathlib.Omega.{arith}
-use lib.ListN.{length, getD, replicate, length-replicate, getD-replicate}
-use lib.Dec.{eqb, leb, ltb}
-use borrow.Author.Tests.{not-false, ltb-true}
-use Rattle.board.specs.Pages.{homeOf}
+-- Stands on RelatedCalls and RelatedAccesses (one call), Lengths and PagesOnce (what stays), Soundness and Follows (runs).
+use Prim.Native.Nat.{ℕ}
+use mathlib.Core.Path.{_≡_, refl}
+use mathlib.Core.Bool.{Bool, true, false, not, cond}
+use mathlib.Core.List.{List, []}
+use borrow.Author.Tests.{ltb-true}
 use Rattle.board.specs.declared.Shape.{Shape}
-use Rattle.board.specs.declared.Home.the-variants.{Line}
 use Rattle.lines.specs.Bytes.{lineOf}
-use Rattle.lines.specs.Records.{lineAt}
-use Rattle.lines.specs.Stores.{Store, holdsAt, holdsLine}
 use Rattle.lines.specs.Reach.{current}
-use Rattle.lines.proofs.OneBit.{one-pos}
-use Rattle.machine.specs.Boards.{ways, Board, board, fitsBoard, fresh, Outcome, refused}
-use Rattle.machine.specs.Refusals.{Row, row, byTable, row1, isPhysicalLine}
+use Rattle.machine.specs.Boards.{Board, fitsBoard, refused}
+use Rattle.machine.specs.Refusals.{byTable, isPhysicalLine}
 use Rattle.machine.specs.Accesses.{userTable, userAccess, supervisorTable, supervisorAccess}
 use Rattle.machine.specs.Calls as calls
-use Rattle.machine.specs.Looks.{look}
-use Rattle.promises.specs.Plain.{Plain, Given, given, plainRefused, plainUser, plainSupervisor, plainAttach, plainDetach, plainMap, plainUnmap, plainProtect, plainFlush, plainTagging, plainLoadAndMap, plainDropTag, plainLook}
-use Rattle.promises.specs.Runs.{Supervisor, access, attach, detach, map, unmap, protect, flushAll, tag, loadAndMap, dropTag, Call, user, supervisor, supervise, step, after, Reply, reply, replies, plainSupervise, plainStep, plainAfter, plainReply, plainReplies, plainOf}
-use Rattle.promises.specs.Sound.{Sound, Shows, PagesOnce}
-use Rattle.promises.specs.Demand2.{Alike, Demand2, SoundRun, Demand2Sound}
-use Rattle.promises.proofs.Sim.{byte, Homes, Sim}
-use Rattle.promises.proofs.Related.{Related}
-use Rattle.promises.proofs.Access.{look-same}
+use Rattle.machine.specs.Looks.{lookNumber, look}
+use Rattle.promises.specs.Plain.{Plain, plainRefused, plainUser, plainSupervisor, plainAttach, plainDetach, plainMap, plainUnmap, plainProtect, plainFlush, plainTagging, plainLoadAndMap, plainDropTag, plainLookNumber, plainLook}
+use Rattle.promises.specs.Runs.{Supervisor, access, attach, detach, map, unmap, protect, flushAll, tag, loadAndMap, dropTag, Call, user, supervisor, supervise, step, after, plainSupervise, plainStep, plainOf}
+use Rattle.promises.specs.Demand2.{Alike, Demand2, Demand2Sound}
+use Rattle.promises.proofs.Reaching.{look-same}
+use Rattle.promises.proofs.Related.{Related, lengths-same}
+use Rattle.promises.proofs.RelatedCalls.{related-attach, related-detach, related-map, related-unmap, related-protect, related-flush, related-tag, related-load, related-drop}
+use Rattle.promises.proofs.RelatedAccesses.{related-user, related-supervisor}
+use Rattle.promises.proofs.Lengths.{fits-step}
+use Rattle.promises.proofs.PagesOnce.{pages-once-step}
 use Rattle.promises.proofs.Soundness.{Stands, sound-of, stands-of, stands-fresh}
-use Rattle.promises.proofs.Follows.{Stepped, Ran, ran, alike}
-use Rattle.promises.proofs.PagesOnce.{fits-step, pages-once-step}
-use Rattle.promises.proofs.Calls.{board-shaped, same-row1, lengths-same, related-attach, related-detach, related-map, related-unmap, related-protect, related-flush, related-tag, related-load, related-drop}
-use Rattle.promises.proofs.Accesses.{related-user, related-supervisor}
+use Rattle.promises.proofs.Follows.{Stepped, ran, alike}
 
 related-supervise : (s : Shape) (b : Board) (m : List ℕ) → Stands s b m → (c : Supervisor) → Related s (supervise s b c) (plainSupervise s (plainOf b m) c)
-unfolding supervise plainSupervise calls.mapPage calls.mapped calls.unmap calls.unmapped calls.protect calls.protected
+unfolding supervise plainSupervise
 related-supervise s b m x (access a g) = related-supervisor s b m (x .fits) (x .sim) a g
 related-supervise s b m x (attach process slot segment write) = related-attach s b m (x .fits) (x .sim) process slot segment write
 related-supervise s b m x (detach process slot) = related-detach s b m (x .fits) (x .sim) process slot
@@ -55,23 +47,30 @@ related-step s b m x (supervisor c) = related-supervise s b m x c
 pub stepped : (s : Shape) (b : Board) (m : List ℕ) (k : Call) → Stands s b m → Stepped (Stands s) s b m k
 stepped s b m k x =
     let r = related-step s b m x k in
-    record { memory = r .memory; given-is = r .given-is;
-      related = record { fits = fits-step s b k (x .fits); pages-once = pages-once-step s b k (x .fits) (x .pages-once); sim = r .sim } }
+    record {
+      memory = r .memory;
+      given-is = r .given-is;
+      related = record { fits = fits-step s b k (x .fits); pages-once = pages-once-step s b k (x .fits) (x .pages-once); sim = r .sim };
+    }
 
 pub look-plain : (s : Shape) (b : Board) (m : List ℕ) (line : ℕ) → Stands s b m → look s b line ≡ plainLook s (plainOf b m) line
 unfolding look plainLook byTable
-look-plain s b m line x = rw (same-row1 s b m (lengths-same s b m (x .fits) (x .sim)), x .fits) (go (isPhysicalLine s line) refl)
+look-plain s b m line x = rw (lengths-same s b m (x .sim), x .fits) (go (isPhysicalLine s line) refl)
   where
     go : (t : Bool) → isPhysicalLine s line ≡ t → cond (not t) [] (current 1 s (b .store) line) ≡ cond (not t) [] (lineOf m line)
     go true t = look-same (x .sim) line (ltb-true _ _ t)
     go false t = refl
+
+pub look-number-plain : (s : Shape) (b : Board) (m : List ℕ) (line : ℕ) → Stands s b m → lookNumber s b line ≡ plainLookNumber s (plainOf b m) line
+unfolding lookNumber plainLookNumber
+look-number-plain s b m line x = rw (lengths-same s b m (x .sim))
 
 -- from any sound board
 pub demand2-sound : Demand2Sound
 demand2-sound s b m x y ks =
     let z = stands-of s b m x y in
     let r = ran (Stands s) s (stepped s) b m ks z in
-    record { alike = alike (Stands s) s (stepped s) (look-plain s) b m ks z; sound = sound-of s (after s b ks) (r .memory) (r .related) }
+    record { alike = alike (Stands s) s (stepped s) (look-plain s) (look-number-plain s) b m ks z; sound = sound-of s (after s b ks) (r .memory) (r .related) }
 
 -- ---- a board whose numbers or lengths don't fit: every call is refused by 1, on both machines
 
@@ -114,10 +113,14 @@ pub look-unfit : (s : Shape) (b : Board) (m : List ℕ) (line : ℕ) → Unfit s
 unfolding look plainLook byTable
 look-unfit s b m line x = rw (x .memory-is, x .no)
 
+pub look-number-unfit : (s : Shape) (b : Board) (m : List ℕ) (line : ℕ) → Unfit s b m → lookNumber s b line ≡ plainLookNumber s (plainOf b m) line
+unfolding lookNumber plainLookNumber
+look-number-unfit s b m line x = rw (x .memory-is)
+
 -- from any fresh board
 pub demand2 : Demand2
-demand2 s cache memory ks = go (fitsBoard s (fresh s cache memory)) refl
+demand2 s b x ks = go (fitsBoard s b) refl
   where
-    go : (t : Bool) → fitsBoard s (fresh s cache memory) ≡ t → Alike s (fresh s cache memory) memory ks
-    go true t = alike (Stands s) s (stepped s) (look-plain s) (fresh s cache memory) memory ks (stands-fresh s cache memory t)
-    go false t = alike (Unfit s) s (unfit-stepped s) (look-unfit s) (fresh s cache memory) memory ks (record { no = t; memory-is = refl })
+    go : (t : Bool) → fitsBoard s b ≡ t → Alike s b (b .store .memory) ks
+    go true t = alike (Stands s) s (stepped s) (look-plain s) (look-number-plain s) b (b .store .memory) ks (stands-fresh s b x t)
+    go false t = alike (Unfit s) s (unfit-stepped s) (look-unfit s) (look-number-unfit s) b (b .store .memory) ks (record { no = t; memory-is = refl })

@@ -1,33 +1,35 @@
--- Demand 3: carried from the plain machine by demand 2.
-use Prim.Native.Nat.{ℕ, _*_, _/_, _<_}
+-- Demand 3: carried from the plain machine (Apart) by demand 2 (Follows).
+use Prim.Native.Nat.{ℕ, _*_, _/_}
 use mathlib.Core.Path.{_≡_, refl, sym, ap, _∙_}
 use mathlib.Core.Bool.{Bool, true, false}
 use mathlib.Core.List.{List, [], _∷_}
-use Rattle.board.specs.Pages.{mappedTo}
 use Rattle.board.specs.declared.Shape.{Shape}
-use Rattle.board.specs.declared.Found.the-variants.{At}
-use Rattle.machine.specs.Boards.{Board, fitsBoard, fresh}
-use Rattle.machine.specs.Looks.{look}
-use Rattle.promises.specs.Plain.{Plain, plainLook}
-use Rattle.promises.specs.Runs.{Call, step, after, plainAfter, plainOf}
+use Rattle.board.proofs.Bools.{clash}
+use Rattle.machine.specs.Boards.{Board, fitsBoard, Fresh}
+use Rattle.machine.specs.Looks.{lookNumber, look}
+use Rattle.promises.specs.Plain.{Plain, plainLookNumber, plainLook}
+use Rattle.promises.specs.Runs.{Call, after, plainAfter, plainOf}
 use Rattle.promises.specs.Sound.{LinesOnce}
 use Rattle.promises.specs.Demand3.{holds, holdsForWriting, Apart, SameFor, SameForProcess, OneCopy, Demand3}
-use Rattle.promises.proofs.Steps.{clash}
-use Rattle.promises.proofs.Apart.{plainEver, PlainApart, plain-apart}
 use Rattle.promises.proofs.Soundness.{Stands, fresh-empty, stands-fresh}
-use Rattle.promises.proofs.Follows.{Stepped, Ran, ran, replies-to, ever-same, look-after}
-use Rattle.promises.proofs.Demand2.{stepped, look-plain, Unfit, unfit-call, unfit-stepped, look-unfit}
+use Rattle.promises.proofs.Apart.{PlainApart, plain-apart}
+use Rattle.promises.proofs.Follows.{Stepped, ran, replies-to, ever-plain, look-after}
+use Rattle.promises.proofs.Demand2.{stepped, look-plain, look-number-plain, Unfit, unfit-call, unfit-stepped, look-unfit, look-number-unfit}
 
 -- from any board that a plain machine follows
 module _ (R : Board → List ℕ → Type 0) (s : Shape) (stepped : (b : Board) (m : List ℕ) (k : Call) → R b m → Stepped R s b m k)
-    (shown : (b : Board) (m : List ℕ) (line : ℕ) → R b m → look s b line ≡ plainLook s (plainOf b m) line) (b : Board) (m : List ℕ) (x : R b m) where
+    (shown : (b : Board) (m : List ℕ) (line : ℕ) → R b m → look s b line ≡ plainLook s (plainOf b m) line)
+    (asked : (b : Board) (m : List ℕ) (line : ℕ) → R b m → lookNumber s b line ≡ plainLookNumber s (plainOf b m) line) (b : Board) (x : R b (b .store .memory)) where
+  abbrev m : List ℕ
+  m = b .store .memory
+
   plain-premise : (ks : List Call) (process : ℕ) → Apart s b ks process → PlainApart s (plainOf b m) ks process
   plain-premise ks process h segment other l n a w =
       h segment other l n
-        (ever-same R s stepped (λ slots. holds slots process segment) b m ks x ∙ a)
-        (ever-same R s stepped (λ slots. holdsForWriting slots other segment) b m ks x ∙ w)
+      (ever-plain R s stepped (λ slots. holds slots process segment) b m ks x ∙ a)
+      (ever-plain R s stepped (λ slots. holdsForWriting slots other segment) b m ks x ∙ w)
 
-  same-process : (ks ls : List Call) (process : ℕ) → SameFor process ks ls → Apart s b ks process → SameForProcess s b b ks ls process m
+  same-process : (ks ls : List Call) (process : ℕ) → SameFor process ks ls → Apart s b ks process → SameForProcess s b ks ls process
   same-process ks ls process f h =
       let q = plain-apart s (plainOf b m) ks ls process f (plain-premise ks process h) in
       let k = ran R s stepped b m ks x in
@@ -39,9 +41,9 @@ module _ (R : Board → List ℕ → Type 0) (s : Shape) (stepped : (b : Board) 
         plain-replies = replies-to R s stepped process b m ks x;
         same-map = sym words-k ∙ q .same-words ∙ words-l;
         same-bytes = λ page frame line e g d.
-            look-after R s stepped shown b m ks line x
-            ∙ q .same-bytes page frame line (sym (ever-same R s stepped (λ slots. holds slots process (page / 1024)) b m ks x) ∙ e) (rw words-k g) d
-            ∙ sym (look-after R s stepped shown b m ls line x);
+            look-after R s stepped shown asked b m ks line x
+            ∙ q .same-bytes page frame line (sym (ever-plain R s stepped (λ slots. holds slots process (page / 1024)) b m ks x) ∙ e) (rw words-k g) d
+            ∙ sym (look-after R s stepped shown asked b m ls line x);
       }
 
 -- a board that doesn't fit stays as it is
@@ -51,19 +53,20 @@ unfit-after s b h [] = refl
 unfit-after s b h (k ∷ ks) = let z = unfit-call s b h k .0 in rw z (unfit-after s b h ks)
 
 pub one-copy : OneCopy
-one-copy s cache memory ks = go (fitsBoard s (fresh s cache memory)) refl
+one-copy s b x ks = go (fitsBoard s b) refl
   where
-    go : (t : Bool) → fitsBoard s (fresh s cache memory) ≡ t → LinesOnce s (after s (fresh s cache memory) ks .store)
-    go true t = ran (Stands s) s (stepped s) (fresh s cache memory) memory ks (stands-fresh s cache memory t) .related .sim .once
-    go false t = λ i j a b q. clash _ (rw (unfit-after s (fresh s cache memory) t ks) at a) (fresh-empty s (2 * s .lines) i)
+    go : (t : Bool) → fitsBoard s b ≡ t → LinesOnce s (after s b ks .store)
+    go true t = ran (Stands s) s (stepped s) b (b .store .memory) ks (stands-fresh s b x t) .related .sim .once
+    go false t = λ i j a c q. absurd (fresh-empty s b x i (rw (unfit-after s b t ks) at a))
 
 pub demand3 : Demand3
 demand3 = record {
-  apart = λ s cache memory ks ls process f h. go s cache memory ks ls process f h (fitsBoard s (fresh s cache memory)) refl;
+  apart = λ s b x ks ls process f h. go s b x ks ls process f h (fitsBoard s b) refl;
   one-copy = one-copy;
 }
   where
-    go : (s : Shape) (cache memory : List ℕ) (ks ls : List Call) (process : ℕ) → SameFor process ks ls → Apart s (fresh s cache memory) ks process
-        → (t : Bool) → fitsBoard s (fresh s cache memory) ≡ t → SameForProcess s (fresh s cache memory) (fresh s cache memory) ks ls process memory
-    go s cache memory ks ls process f h true t = same-process (Stands s) s (stepped s) (look-plain s) (fresh s cache memory) memory (stands-fresh s cache memory t) ks ls process f h
-    go s cache memory ks ls process f h false t = same-process (Unfit s) s (unfit-stepped s) (look-unfit s) (fresh s cache memory) memory (record { no = t; memory-is = refl }) ks ls process f h
+    go : (s : Shape) (b : Board) → Fresh b → (ks ls : List Call) (process : ℕ) → SameFor process ks ls → Apart s b ks process
+        → (t : Bool) → fitsBoard s b ≡ t → SameForProcess s b ks ls process
+    go s b x ks ls process f h true t = same-process (Stands s) s (stepped s) (look-plain s) (look-number-plain s) b (stands-fresh s b x t) ks ls process f h
+    go s b x ks ls process f h false t =
+        same-process (Unfit s) s (unfit-stepped s) (look-unfit s) (look-number-unfit s) b (record { no = t; memory-is = refl }) ks ls process f h

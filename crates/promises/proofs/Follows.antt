@@ -1,13 +1,13 @@
 -- Runs of two machines that keep a relation: what holds of one call holds of a list of calls.
+-- Stands on the definitions, and on Apart for what is held at some moment.
 use Prim.Native.Nat.{ℕ}
 use mathlib.Core.Path.{_≡_, refl, sym, ap, _∙_}
-use mathlib.Core.Bool.{Bool, true, false, _||_, cond}
+use mathlib.Core.Bool.{Bool, _||_}
 use mathlib.Core.List.{List, [], _∷_}
-use lib.Dec.{eqb}
 use Rattle.board.specs.declared.Shape.{Shape}
 use Rattle.machine.specs.Boards.{Board}
-use Rattle.machine.specs.Looks.{look}
-use Rattle.promises.specs.Plain.{Plain, Given, given, plainLook}
+use Rattle.machine.specs.Looks.{lookNumber, look}
+use Rattle.promises.specs.Plain.{Given, given, plainLookNumber, plainLook}
 use Rattle.promises.specs.Runs.{Call, user, supervisor, step, after, replies, plainStep, plainAfter, plainReplies, plainOf}
 use Rattle.promises.specs.Demand2.{Alike}
 use Rattle.promises.specs.Demand3.{atSomeMoment, repliesTo, plainRepliesTo}
@@ -51,15 +51,16 @@ module _ (R : Board → List ℕ → Type 0) (s : Shape) (stepped : (b : Board) 
       rw z (replies-to process (step s b (supervisor c) .after) (r .memory) ks (r .related))
 
   -- what the slots are at some moment
-  pub ever-same : (test : List ℕ → Bool) (b : Board) (m : List ℕ) (ks : List Call) → R b m → atSomeMoment test s b ks ≡ plainEver test s (plainOf b m) ks
+  pub ever-plain : (test : List ℕ → Bool) (b : Board) (m : List ℕ) (ks : List Call) → R b m → atSomeMoment test s b ks ≡ plainEver test s (plainOf b m) ks
   unfolding atSomeMoment plainEver
-  ever-same test b m [] x = refl
-  ever-same test b m (k ∷ ks) x =
+  ever-plain test b m [] x = refl
+  ever-plain test b m (k ∷ ks) x =
       let r = stepped b m k x in
       let z = r .given-is in
-      rw z (ap (λ (t : Bool). test (b .slots) || t) (ever-same test (step s b k .after) (r .memory) ks (r .related)))
+      rw z (ap (λ (t : Bool). test (b .slots) || t) (ever-plain test (step s b k .after) (r .memory) ks (r .related)))
 
-  module _ (shown : (b : Board) (m : List ℕ) (line : ℕ) → R b m → look s b line ≡ plainLook s (plainOf b m) line) where
+  module _ (shown : (b : Board) (m : List ℕ) (line : ℕ) → R b m → look s b line ≡ plainLook s (plainOf b m) line)
+      (asked : (b : Board) (m : List ℕ) (line : ℕ) → R b m → lookNumber s b line ≡ plainLookNumber s (plainOf b m) line) where
     pub look-after : (b : Board) (m : List ℕ) (ks : List Call) (line : ℕ) → R b m → look s (after s b ks) line ≡ plainLook s (plainAfter s (plainOf b m) ks) line
     look-after b m ks line x = let r = ran b m ks x in rw (r .plain-is) (shown (after s b ks) (r .memory) line (r .related))
 
@@ -69,6 +70,7 @@ module _ (R : Board → List ℕ → Type 0) (s : Shape) (stepped : (b : Board) 
         record {
           same-replies = r .replies-same;
           same-bytes = λ line. look-after b m ks line x;
+          same-look-number = λ line. rw (r .plain-is) (asked (after s b ks) (r .memory) line (r .related));
           done-at-once = λ k h.
               let y = stepped (after s b ks) (r .memory) k (r .related) in
               sym (ap (λ (g : Given). g .number) (y .given-is)) ∙ (rw (r .plain-is) at h);

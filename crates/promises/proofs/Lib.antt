@@ -1,20 +1,30 @@
+-- From the bottom up. The store and the flat memory
 pub mod Sim
 pub mod Bytes
+pub mod Zeroed
+pub mod Searches
+pub mod Held
 pub mod Steps
-pub mod Access
+pub mod Sweeps
 pub mod Maps
-pub mod Many
 pub mod Remap
+pub mod Reaching
+-- the board and the plain machine, call by call
+pub mod Shapes
 pub mod Related
-pub mod Calls
-pub mod Accesses
+pub mod RelatedCalls
+pub mod RelatedAccesses
+pub mod Lengths
 pub mod PagesOnce
-pub mod Places
 pub mod Soundness
+-- two plain machines
+pub mod Admitted
 pub mod Views
 pub mod Apart
-pub mod ApartRuns
+-- runs, and the demands
 pub mod Follows
+pub mod Places
 pub mod Demand1
 pub mod Demand2
 pub mod Demand3
+pub mod Examples

@@ -1,8 +1,9 @@
--- The page map: where a name leads, that no two names share a home, and what a changed frame word leaves alone.
+-- The page map: what words name, the frame of a page, where a name leads, that no two names share a home, and what a changed
+-- frame word leaves alone. Stands on Searches and on the map laws of `board`.
 use Prim.Native.Nat.{ℕ, zero, suc, _+_, _*_, _-_, _/_, _%_, _^_, _≤_, _<_}
 use mathlib.Core.Logic.{_≢_}
 use mathlib.Core.Path.{_≡_, refl, sym, _∙_}
-use mathlib.Core.Bool.{Bool, true, false, _&&_, _||_, cond}
+use mathlib.Core.Bool.{Bool, true, false, not, _&&_, _||_, cond}
 use mathlib.Core.List.{List}
 use native.Mathlib.Omega.{arith}
 use lib.Dec.{eqb, leb, ltb}
@@ -16,8 +17,12 @@ use Rattle.board.specs.declared.Shape.{Shape}
 use Rattle.board.specs.declared.Found.{Found}
 use Rattle.board.specs.declared.Found.the-variants.{At, Nothing}
 use Rattle.board.specs.declared.Home.the-variants.{Line, Nowhere}
-use Rattle.board.proofs.Bools.{and-left, and-right}
+use Rattle.board.proofs.Bools.{clash, and-left, and-right}
+use Rattle.board.proofs.Frames.{mapped-ordinary, home-at, home-direct, direct-other, home-inside}
+use Rattle.machine.specs.Refusals.{isMapped}
+use Rattle.machine.specs.Calls.{foundFrame}
 use Rattle.promises.proofs.Sim.{Homes}
+use Rattle.promises.proofs.Searches.{first, first-at, first-nothing, first-same, first-hit}
 
 -- ---- words
 
@@ -49,7 +54,7 @@ module _ (page : ℕ) where
   frame-word-page true = omega arith
   frame-word-page false = omega arith
 
-  pub frame-word-odd : (write : Bool) → frameWord page write % 2 ≡ 1
+  frame-word-odd : (write : Bool) → frameWord page write % 2 ≡ 1
   frame-word-odd true = omega arith
   frame-word-odd false = omega arith
 
@@ -63,100 +68,18 @@ module _ (page : ℕ) where
   pub ordinary-low : ordinaryPage page ≡ true → 0x200000 ≤ page
   ordinary-low h = leb-true _ _ (and-left (leb firstPage page) _ h)
 
-  -- a page below the ordinary ones
-  pub ordinary-not : page < 0x200000 → ordinaryPage page ≡ false
-  ordinary-not h = go (ordinaryPage page) refl
-    where
-      go : (t : Bool) → ordinaryPage page ≡ t → t ≡ false
-      go true t = let a = ordinary-low t in absurd (omega arith)
-      go false t = refl
-
--- ---- the search, by the frames' numbers
-
--- the lowest of the n frames from f on whose word names the page
-unfoldable pub seek : List ℕ → ℕ → ℕ → ℕ → Found
-seek words page f zero = Nothing
-seek words page f (suc n) = cond (namesPage (getD words f 0) page) (At f) (seek words page (suc f) n)
-
-lowest-seek : (words : List ℕ) (page f n : ℕ) → n ≡ length words - f → lowestFrom (drop f words) f page ≡ seek words page f n
-unfolding lowestFrom seek
-lowest-seek words page f zero h = let a : length words ≤ f = omega arith in rw drop-of-length-le
-lowest-seek words page f (suc n) h =
-    let a : f < length words = omega arith in
-    rw (drop-cons words f 0) (rw (lowest-seek words page (suc f) n (omega arith)))
-
-pub record Sought (words : List ℕ) (page f n g : ℕ) : Type 0 where
-  pub from : f ≤ g
-  pub to : g < f + n
-  pub names : namesPage (getD words g 0) page ≡ true
-
-sought-step : (words : List ℕ) (page f n g : ℕ) (t : Bool) → namesPage (getD words f 0) page ≡ t → cond t (At f) (seek words page (suc f) n) ≡ At g
-    → (seek words page (suc f) n ≡ At g → Sought words page (suc f) n g) → Sought words page f (suc n) g
-sought-step words page f n g true t h later =
-    let a : f ≡ g = cc in
-    rw (← a) record { from = omega arith; to = omega arith; names = t }
-sought-step words page f n g false t h later =
-    let s = later h in
-    record { from = omega arith; to = omega arith; names = s .names }
-
-sought : (words : List ℕ) (page f n g : ℕ) → seek words page f n ≡ At g → Sought words page f n g
-unfolding seek
-sought words page f zero g h = let z : _≡_ {A = ℕ} 0 1 = cc in absurd (omega arith)
-sought words page f (suc n) g h = sought-step words page f n g (namesPage (getD words f 0) page) refl h (sought words page (suc f) n g)
-
--- the search finds nothing: no frame in its range names the page
-sought-none : (words : List ℕ) (page f n g : ℕ) → seek words page f n ≡ Nothing → f ≤ g → g < f + n → namesPage (getD words g 0) page ≡ false
-unfolding seek
-sought-none words page f zero g h a b = absurd (omega arith)
-sought-none words page f (suc n) g h a b = go (namesPage (getD words f 0) page) (eqb g f) refl refl h (sought-none words page (suc f) n g)
-  where
-    go : (t u : Bool) → namesPage (getD words f 0) page ≡ t → eqb g f ≡ u → cond t (At f) (seek words page (suc f) n) ≡ Nothing
-        → (seek words page (suc f) n ≡ Nothing → suc f ≤ g → g < suc f + n → namesPage (getD words g 0) page ≡ false) → namesPage (getD words g 0) page ≡ false
-    go true u t v h later = let z : _≡_ {A = ℕ} 0 1 = cc in absurd (omega arith)
-    go false true t v h later = let q : g ≡ f = eqb-true g f v in rw q t
-    go false false t v h later = let q = eqb-false g f v in later h (omega arith) (omega arith)
-
--- a frame's word changed
-module _ (words : List ℕ) (page f w : ℕ) (b : f < length words) where
-  names-set : (a : ℕ) → namesPage (getD words f 0) page ≡ false → namesPage w page ≡ false
-      → namesPage (getD (set words f w) a 0) page ≡ namesPage (getD words a 0) page
-  names-set a x y = go (eqb a f) refl
-    where
-      go : (t : Bool) → eqb a f ≡ t → namesPage (getD (set words f w) a 0) page ≡ namesPage (getD words a 0) page
-      go true t = let q : a ≡ f = eqb-true a f t in rw (q, getD-set-same words f w 0 b) (y ∙ sym x)
-      go false t = rw (getD-set-other words f a w 0 (eqb-false a f t))
-
-  seek-set : (a n : ℕ) → namesPage (getD words f 0) page ≡ false → namesPage w page ≡ false → seek (set words f w) page a n ≡ seek words page a n
-  unfolding seek
-  seek-set a zero x y = refl
-  seek-set a (suc n) x y = rw (names-set a x y, seek-set (suc a) n x y)
-
-  seek-hit : (a n : ℕ) → namesPage w page ≡ true → seek words page a n ≡ At f → seek (set words f w) page a n ≡ At f
-  unfolding seek
-  seek-hit a zero y h = h
-  seek-hit a (suc n) y h = go (eqb a f) (namesPage (getD words a 0) page) refl refl h (seek-hit (suc a) n y)
-    where
-      go : (t u : Bool) → eqb a f ≡ t → namesPage (getD words a 0) page ≡ u → cond u (At a) (seek words page (suc a) n) ≡ At f
-          → (seek words page (suc a) n ≡ At f → seek (set words f w) page (suc a) n ≡ At f)
-          → cond (namesPage (getD (set words f w) a 0) page) (At a) (seek (set words f w) page (suc a) n) ≡ At f
-      go true u t v h later = let q : a ≡ f = eqb-true a f t in rw (q, getD-set-same words f w 0 b, y)
-      go false true t v h later = let z : a ≡ f = cc in absurd (eqb-false a f t z)
-      go false false t v h later = rw (getD-set-other words f a w 0 (eqb-false a f t), v) (later h)
-
-  -- a page that no frame names is found in the frame that comes to name it
-  seek-new : (a n : ℕ) → namesPage w page ≡ true → seek words page a n ≡ Nothing → a ≤ f → f < a + n → seek (set words f w) page a n ≡ At f
-  unfolding seek
-  seek-new a zero y h i j = absurd (omega arith)
-  seek-new a (suc n) y h i j = go (eqb a f) (namesPage (getD words a 0) page) refl refl h (seek-new (suc a) n y)
-    where
-      go : (t u : Bool) → eqb a f ≡ t → namesPage (getD words a 0) page ≡ u → cond u (At a) (seek words page (suc a) n) ≡ Nothing
-          → (seek words page (suc a) n ≡ Nothing → suc a ≤ f → f < suc a + n → seek (set words f w) page (suc a) n ≡ At f)
-          → cond (namesPage (getD (set words f w) a 0) page) (At a) (seek (set words f w) page (suc a) n) ≡ At f
-      go true u t v h later = let q : a ≡ f = eqb-true a f t in rw (q, getD-set-same words f w 0 b, y)
-      go false true t v h later = let z : _≡_ {A = ℕ} 0 1 = cc in absurd (omega arith)
-      go false false t v h later = let q = eqb-false a f t in rw (getD-set-other words f a w 0 q, v) (later h (omega arith) (omega arith))
-
 -- ---- the frame of a page
+
+abbrev names : List ℕ → ℕ → ℕ → Bool
+names words page f = namesPage (getD words f 0) page
+
+-- the search, by the frames' numbers
+lowest-first : (words : List ℕ) (page f n : ℕ) → n ≡ length words - f → lowestFrom (drop f words) f page ≡ first (names words page) f n
+unfolding lowestFrom first
+lowest-first words page f zero h = let a : length words ≤ f = omega arith in rw drop-of-length-le
+lowest-first words page f (suc n) h =
+    let a : f < length words = omega arith in
+    rw (drop-cons words f 0) (rw (lowest-first words page (suc f) n (omega arith)))
 
 -- what is mapped: an ordinary page, to a frame from U up whose word names it
 pub record Mapped (s : Shape) (words : List ℕ) (page f : ℕ) : Type 0 where
@@ -167,90 +90,75 @@ pub record Mapped (s : Shape) (words : List ℕ) (page f : ℕ) : Type 0 where
   pub page-is : getD words f 0 / 4 ≡ page
   pub odd : getD words f 0 % 2 ≡ 1
 
-if-at : (t : Bool) (found : Found) (f : ℕ) → cond t found Nothing ≡ At f → (t ≡ true) × (found ≡ At f)
-if-at true found f e = (refl, e)
-if-at false found f e = let z : _≡_ {A = ℕ} 0 1 = cc in absurd (omega arith)
-
 module _ (s : Shape) (words : List ℕ) (page : ℕ) where
-  mapped-seek : mappedTo s words page ≡ cond (ordinaryPage page) (seek words page (s .uncached) (length words - s .uncached)) Nothing
+  abbrev search : Found
+  search = first (names words page) (s .uncached) (length words - s .uncached)
+
+  mapped-search : mappedTo s words page ≡ cond (ordinaryPage page) search Nothing
   unfolding mappedTo lowestFrame
-  mapped-seek = rw (lowest-seek words page (s .uncached) (length words - s .uncached) refl)
+  mapped-search = rw (lowest-first words page (s .uncached) (length words - s .uncached) refl)
 
-  mapped-ordinary : ordinaryPage page ≡ true → mappedTo s words page ≡ seek words page (s .uncached) (length words - s .uncached)
-  mapped-ordinary h = mapped-seek ∙ rw h
-
-  pub mapped-other : ordinaryPage page ≡ false → mappedTo s words page ≡ Nothing
-  mapped-other h = mapped-seek ∙ rw h
-
-  mapped-both : (f : ℕ) → mappedTo s words page ≡ At f → (ordinaryPage page ≡ true) × (seek words page (s .uncached) (length words - s .uncached) ≡ At f)
-  mapped-both f h = if-at (ordinaryPage page) (seek words page (s .uncached) (length words - s .uncached)) f (sym mapped-seek ∙ h)
+  ordinary-search : ordinaryPage page ≡ true → mappedTo s words page ≡ search
+  ordinary-search o = mapped-search ∙ rw o
 
   pub mapped-frame : (f : ℕ) → mappedTo s words page ≡ At f → Mapped s words page f
   mapped-frame f h =
-      let b = mapped-both f h in
-      let g = sought words page (s .uncached) (length words - s .uncached) f (b .1) in
-      let n = names-word (getD words f 0) page (g .names) in
-      record { ordinary = b .0; from = g .from; inside = omega arith; names = g .names; page-is = n .0; odd = n .1 }
+      let o = mapped-ordinary s words page f (mappedTo s words page) refl h in
+      let g = first-at (names words page) (s .uncached) (length words - s .uncached) f (sym (ordinary-search o) ∙ h) in
+      let n = names-word (getD words f 0) page (g .passes) in
+      record { ordinary = o; from = g .from; inside = omega arith; names = g .passes; page-is = n .0; odd = n .1 }
 
   -- no frame from U up names an ordinary page that is not mapped
   pub mapped-nothing : ordinaryPage page ≡ true → mappedTo s words page ≡ Nothing
       → (g : ℕ) → s .uncached ≤ g → g < length words → namesPage (getD words g 0) page ≡ false
-  mapped-nothing o h g a b = sought-none words page (s .uncached) (length words - s .uncached) g (sym (mapped-ordinary o) ∙ h) a (omega arith)
+  mapped-nothing o h g a b = first-nothing (names words page) (s .uncached) (length words - s .uncached) g (sym (ordinary-search o) ∙ h) a (omega arith)
+
+-- what is found, by the test of rows 8 and 11
+pub found-at : (found : Found) → not (isMapped found) ≡ false → found ≡ At (foundFrame found)
+unfolding isMapped foundFrame
+found-at (At f) h = refl
+found-at Nothing h = clash true refl h
+
+pub found-nothing : (found : Found) → isMapped found ≡ false → found ≡ Nothing
+unfolding isMapped
+found-nothing (At f) h = clash true refl h
+found-nothing Nothing h = refl
 
 -- the frame of a page after the word of a frame is changed
 module _ (s : Shape) (words : List ℕ) (page f w : ℕ) (b : f < length words) where
+  names-set : namesPage (getD words f 0) page ≡ false → namesPage w page ≡ false → (a : ℕ) → names (set words f w) page a ≡ names words page a
+  names-set x y a = go (eqb a f) refl
+    where
+      go : (t : Bool) → eqb a f ≡ t → names (set words f w) page a ≡ names words page a
+      go true t = let q : a ≡ f = eqb-true a f t in rw (q, getD-set-same words f w 0 b) (y ∙ sym x)
+      go false t = rw (getD-set-other words f a w 0 (eqb-false a f t))
+
   -- a word that did not name the page and does not name it now
-  pub mapped-set : namesPage (getD words f 0) page ≡ false → namesPage w page ≡ false → mappedTo s (set words f w) page ≡ mappedTo s words page
+  mapped-set : namesPage (getD words f 0) page ≡ false → namesPage w page ≡ false → mappedTo s (set words f w) page ≡ mappedTo s words page
   mapped-set x y =
-      mapped-seek s (set words f w) page
-      ∙ rw (length-set words f w, seek-set words page f w b (s .uncached) (length words - s .uncached) x y) (sym (mapped-seek s words page))
+      mapped-search s (set words f w) page
+      ∙ rw (length-set words f w, first-same (names words page) (names (set words f w) page) (names-set x y) (s .uncached) (length words - s .uncached))
+      (sym (mapped-search s words page))
 
   -- the word of the page's frame, which still names it
   pub mapped-hit : namesPage w page ≡ true → mappedTo s words page ≡ At f → mappedTo s (set words f w) page ≡ At f
   mapped-hit y h =
-      let o = mapped-both s words page f h in
-      mapped-ordinary s (set words f w) page (o .0)
-      ∙ rw (length-set words f w) (seek-hit words page f w b (s .uncached) (length words - s .uncached) y (o .1))
-
-  -- a page that was not mapped, in the frame whose word comes to name it
-  pub mapped-new : ordinaryPage page ≡ true → s .uncached ≤ f → namesPage w page ≡ true → mappedTo s words page ≡ Nothing → mappedTo s (set words f w) page ≡ At f
-  mapped-new o u y h =
-      mapped-ordinary s (set words f w) page o
-      ∙ rw (length-set words f w) (seek-new words page f w b (s .uncached) (length words - s .uncached) y (sym (mapped-ordinary s words page o) ∙ h) u (omega arith))
+      let o = mapped-ordinary s words page f (mappedTo s words page) refl h in
+      ordinary-search s (set words f w) page o
+      ∙ rw (length-set words f w) (first-hit (names words page) (names (set words f w) page) f (rw (getD-set-same words f w 0 b) y)
+      (λ k n. rw (getD-set-other words f k w 0 n)) (s .uncached) (length words - s .uncached) (sym (ordinary-search s words page o) ∙ h))
 
 -- ---- the home of a name
 
 module _ (s : Shape) (words : List ℕ) (name : ℕ) where
   pub mapped-home : (f : ℕ) → mappedTo s words (name / 256) ≡ At f → homeOf s words name ≡ Line (f * 256 + name % 256) (wordWrites (getD words f 0))
-  unfolding homeOf homeBy
-  mapped-home f h = rw h
-
-  home-direct : mappedTo s words (name / 256) ≡ Nothing → homeOf s words name ≡ directHome s words name
-  unfolding homeOf homeBy
-  home-direct h = rw h
+  mapped-home f h = sym (home-at s words name (At f) (sym h) f _ refl refl)
 
   -- an ordinary page that is not mapped
   pub unmapped-home : ordinaryPage (name / 256) ≡ true → mappedTo s words (name / 256) ≡ Nothing → homeOf s words name ≡ Nowhere
-  unfolding directHome
   unmapped-home o h =
       let l = ordinary-low (name / 256) o in
-      home-direct h ∙ rw (ne-eqb (name / 2 ^ 28) 1 (omega arith))
-
-  -- a name under prefix 1
-  module _ (one : name / 2 ^ 28 ≡ 1) where
-    pub direct-not-ordinary : ordinaryPage (name / 256) ≡ false
-    direct-not-ordinary = ordinary-not (name / 256) (omega arith)
-
-    pub direct-unmapped : mappedTo s words (name / 256) ≡ Nothing
-    direct-unmapped = mapped-other s words (name / 256) direct-not-ordinary
-
-    pub free-home : freeFrame s words (name % 2 ^ 28 / 256) ≡ true → homeOf s words name ≡ Line (name % 2 ^ 28) true
-    unfolding directHome
-    free-home h = home-direct direct-unmapped ∙ rw (eq-eqb (name / 2 ^ 28) 1 one, h)
-
-    pub used-home : freeFrame s words (name % 2 ^ 28 / 256) ≡ false → homeOf s words name ≡ Nowhere
-    unfolding directHome
-    used-home h = home-direct direct-unmapped ∙ rw (eq-eqb (name / 2 ^ 28) 1 one, h)
+      sym (home-direct s words name Nothing (sym h) Nowhere refl (direct-other s words name (omega arith)))
 
 -- what a home says: the name is its physical line under prefix 1, of a free frame, or the word of a frame names the page
 pub data Homed (s : Shape) (words : List ℕ) (n p : ℕ) (w : Bool) : Type 0 where
@@ -298,10 +206,6 @@ homed-apart s words n m p w v (direct a b c d e f) (mapped a′ b′ c′ d′ e
 homed-apart s words n m p w v (mapped a b c d e f h) (direct a′ b′ c′ d′ e′ f′) = absurd (omega arith)
 homed-apart s words n m p w v (mapped a b c d e f h) (mapped a′ b′ c′ d′ e′ f′ h′) = omega arith
 
-homed-inside : (s : Shape) (words : List ℕ) (n p : ℕ) (w : Bool) → length words ≡ s .frames → Homed s words n p w → p < 256 * s .frames
-homed-inside s words n p w z (direct a b c d e f) = omega arith
-homed-inside s words n p w z (mapped a b c d e f h) = omega arith
-
 homed-above : (s : Shape) (words : List ℕ) (n p : ℕ) (w : Bool) → Homed s words n p w → s .uncached ≤ p / 256
 homed-above s words n p w (direct a b c d e f) = c
 homed-above s words n p w (mapped a b c d e f h) = c
@@ -310,10 +214,10 @@ homed-above s words n p w (mapped a b c d e f h) = c
 pub home-above : (s : Shape) (words : List ℕ) (n p : ℕ) (w : Bool) → homeOf s words n ≡ Line p w → s .uncached ≤ p / 256
 home-above s words n p w h = homed-above s words n p w (homed s words n p w h)
 
-pub homes-map : (s : Shape) (words : List ℕ) → length words ≡ s .frames → s .frames ≤ 1048576 → Homes s (homeOf s words)
-homes-map s words z _ = record {
+pub homes-map : (s : Shape) (words : List ℕ) → length words ≡ s .frames → Homes s (homeOf s words)
+homes-map s words z = record {
   apart = λ n m p w v a b. homed-apart s words n m p w v (homed s words n p w a) (homed s words m p v b);
-  inside = λ n p w a. homed-inside s words n p w z (homed s words n p w a);
+  inside = λ n p w a. home-inside s words n p w (homeOf s words n) refl a z;
 }
 
 -- ---- the home of a name after the word of a frame is changed

@@ -1,182 +1,92 @@
 -- The calls on the page map: map, unmap, protect and flush all, and accesses past the cache, keep the store standing for a flat memory.
-use Prim.Native.Nat.{ℕ, zero, suc, _+_, _*_, _/_, _%_, _≤_, _<_}
+-- Stands on Maps and Sweeps.
+use Prim.Native.Nat.{ℕ, _+_, _*_, _/_, _%_, _≤_, _<_}
 use mathlib.Core.Logic.{_≢_}
 use mathlib.Core.Path.{_≡_, refl, sym, ap, _∙_}
 use mathlib.Core.Bool.{Bool, true, false, _&&_, _||_, cond}
-use mathlib.Core.List.{List, [], _∷_}
+use mathlib.Core.List.{List}
 use native.Mathlib.Omega.{arith}
-use lib.Dec.{eqb, ltb}
-use lib.ListN.{length, getD, set, length-set, getD-replicate}
-use lib.Seq.{getD-set-same, getD-set-other}
-use borrow.Author.Tests.{eqb-true, eqb-false, ltb-true, ltb-false, ne-eqb}
+use lib.Dec.{eqb}
+use lib.ListN.{length, getD, set}
+use lib.Seq.{getD-set-same}
+use borrow.Author.Tests.{eqb-true, eqb-false, ne-eqb}
 use Rattle.address.specs.Addresses.{ordinaryPage}
-use Rattle.board.specs.Lists.{splice}
 use Rattle.board.specs.Pages.{frameWord, mappedTo, homeOf, directPage}
 use Rattle.board.specs.declared.Shape.{Shape}
 use Rattle.board.specs.declared.Found.the-variants.{At, Nothing}
-use Rattle.board.proofs.Lists.{length-splice}
-use Rattle.lines.specs.Bytes.{number, digits, stored, zeros, zeroedFrame}
+use Rattle.board.proofs.Bools.{clash, or-false}
+use Rattle.lines.specs.Bytes.{number, digits, stored, zeroedFrame}
 use Rattle.lines.specs.Records.{lineAt, noLine, permittedLine}
-use Rattle.lines.specs.Stores.{Store, store, holdsLine, holdsAt, writtenBack, dropped}
+use Rattle.lines.specs.Stores.{Store, store, holdsLine, holdsAt}
 use Rattle.lines.specs.Visits.{selects, visitedAll}
 use Rattle.lines.specs.declared.Line.{Line}
+use Rattle.lines.specs.declared.Visit.{Visit}
 use Rattle.lines.specs.declared.Visit.the-variants.{Map, Unmap, Protect, Flush}
-use Rattle.lines.proofs.Bytes.{length-zeros, length-stored}
-use Rattle.machine.specs.Calls.{zeroedStore, mapped}
+use Rattle.lines.proofs.Bytes.{length-stored}
+use Rattle.machine.specs.Calls.{zeroedStore}
 use Rattle.promises.proofs.Sim.{byte, Sim}
+use Rattle.promises.proofs.Bytes.{splice-match, splice-apart, number-same, length-digits}
+use Rattle.promises.proofs.Zeroed.{length-zeroed, zeroed-line-in, zeroed-line-out}
+use Rattle.promises.proofs.Held.{holds-none, holds-permitted, held-line, held-same, held-listed, held-below}
+use Rattle.promises.proofs.Sweeps.{fateOf, fate, swept-cache, swept-line, swept-memory-map, swept-memory-protect, Kept, kept-sim, sim-swept-unmap, sim-swept-flush}
 use Rattle.promises.proofs.Maps as maps
 use Rattle.promises.proofs.Maps.{Homed, homed, home-set, home-elsewhere, home-above, mapped-frame, mapped-nothing, mapped-hit, mapped-home, word-names, word-names-not, frame-word-page, frame-word-writes, frame-word-names, ordinary-low}
-use Rattle.promises.proofs.Many.{clash, holds-none, held-line, held-same, held-permitted, held-below, fateOf, fate, swept-alike, swept-line, swept-memory-map, swept-memory-protect, Kept, kept-sim, sim-swept-unmap, sim-swept-flush}
 
--- ---- bytes (copies of laws that Bytes.antt has: to be merged)
-
-splice-below : (l : List ℕ) (at : ℕ) (vs : List ℕ) (k : ℕ) → k < at → getD (splice l at vs) k 0 ≡ getD l k 0
-unfolding splice
-splice-below l at [] k h = refl
-splice-below l at (v ∷ vs) k h = splice-below (set l at v) (suc at) vs k (omega arith) ∙ getD-set-other l at k v 0 (omega arith)
-
-splice-above : (l : List ℕ) (at : ℕ) (vs : List ℕ) (k : ℕ) → at + length vs ≤ k → getD (splice l at vs) k 0 ≡ getD l k 0
-unfolding splice
-splice-above l at [] k h = refl
-splice-above l at (v ∷ vs) k h = splice-above (set l at v) (suc at) vs k (omega arith) ∙ getD-set-other l at k v 0 (omega arith)
-
-splice-in : (l : List ℕ) (at : ℕ) (vs : List ℕ) (k x : ℕ) → x ≡ at + k → k < length vs → x < length l → getD (splice l at vs) x 0 ≡ getD vs k 0
-unfolding splice
-splice-in l at (v ∷ vs) zero x e h b =
-    let a : x ≡ at = omega arith in
-    splice-below (set l at v) (suc at) vs x (omega arith) ∙ rw a (getD-set-same l at v 0 (omega arith))
-splice-in l at (v ∷ vs) (suc k) x e h b = splice-in (set l at v) (suc at) vs k x (omega arith) (omega arith) (rw length-set b)
-splice-in l at [] k x e h b = absurd (omega arith)
-
--- two lists that agree at x and y agree there after the same bytes are stored at the same distance
-splice-match : (l m vs : List ℕ) (p q x y : ℕ) → p + y ≡ q + x → x < length l → y < length m → getD l x 0 ≡ getD m y 0
-    → getD (splice l p vs) x 0 ≡ getD (splice m q vs) y 0
-unfolding splice
-splice-match l m [] p q x y d hx hy e = e
-splice-match l m (v ∷ vs) p q x y d hx hy e =
-    splice-match (set l p v) (set m q v) vs (suc p) (suc q) x y (omega arith) (rw length-set hx) (rw length-set hy) (one (eqb x p) refl)
-  where
-    one : (t : Bool) → eqb x p ≡ t → getD (set l p v) x 0 ≡ getD (set m q v) y 0
-    one true t =
-        let a : x ≡ p = eqb-true x p t in
-        let b : y ≡ q = omega arith in
-        rw (a, b) (getD-set-same l p v 0 (omega arith) ∙ sym (getD-set-same m q v 0 (omega arith)))
-    one false t =
-        let a : x ≢ p = eqb-false x p t in
-        let b : y ≢ q = omega arith in
-        getD-set-other l p x v 0 a ∙ e ∙ sym (getD-set-other m q y v 0 b)
-
--- bytes stored inside line p leave every other line alone
-splice-apart : (l : List ℕ) (at : ℕ) (vs : List ℕ) (p q k : ℕ) → 16 * p ≤ at → at + length vs ≤ 16 * p + 16 → q ≢ p → k < 16
-    → byte (splice l at vs) q k ≡ byte l q k
-splice-apart l at vs p q k a b n h = go (ltb q p) refl
-  where
-    go : (t : Bool) → ltb q p ≡ t → byte (splice l at vs) q k ≡ byte l q k
-    go true t = let d = ltb-true q p t in splice-below l at vs (16 * q + k) (omega arith)
-    go false t = let d = ltb-false q p t in splice-above l at vs (16 * q + k) (omega arith)
-
-number-same : (l m : List ℕ) (p q n : ℕ) → ((k : ℕ) → k < n → getD l (p + k) 0 ≡ getD m (q + k) 0) → number l p n ≡ number m q n
-unfolding number
-number-same l m p q zero h = refl
-number-same l m p q (suc n) h =
-    let a = number-same l m p q n (λ k r. h k (omega arith)) in
-    let b = h n (omega arith) in
-    cc
-
-length-digits : (n v : ℕ) → length (digits n v) ≡ n
-unfolding digits
-length-digits zero v = refl
-length-digits (suc n) v = ap suc (length-digits n v)
-
--- ---- a frame filled with zeros
-
-zeros-at : (n k : ℕ) → k < n → getD (zeros n) k 0 ≡ 0
-unfolding zeros
-zeros-at n k h = getD-replicate {A = ℕ} n k 0 0 h
-
-pub zeroed-in : (m : List ℕ) (f p k : ℕ) → p / 256 ≡ f → k < 16 → 4096 * f + 4096 ≤ length m → byte (zeroedFrame m f) p k ≡ 0
-unfolding zeroedFrame
-zeroed-in m f p k h g b =
-    let n = length-zeros 4096 in
-    let i : 16 * p + k ≡ 4096 * f + (16 * (p % 256) + k) = omega arith in
-    splice-in m (4096 * f) (zeros 4096) (16 * (p % 256) + k) (16 * p + k) i (omega arith) (omega arith) ∙ zeros-at 4096 (16 * (p % 256) + k) (omega arith)
-
-pub zeroed-out : (m : List ℕ) (f p k : ℕ) → p / 256 ≢ f → k < 16 → byte (zeroedFrame m f) p k ≡ byte m p k
-unfolding zeroedFrame
-zeroed-out m f p k h g = go (ltb (p / 256) f) refl
-  where
-    go : (t : Bool) → ltb (p / 256) f ≡ t → byte (splice m (4096 * f) (zeros 4096)) p k ≡ byte m p k
-    go true t = let a = ltb-true (p / 256) f t in splice-below m (4096 * f) (zeros 4096) (16 * p + k) (omega arith)
-    go false t = let a = ltb-false (p / 256) f t in let n = length-zeros 4096 in splice-above m (4096 * f) (zeros 4096) (16 * p + k) (omega arith)
-
-pub length-zeroed : (m : List ℕ) (f : ℕ) → length (zeroedFrame m f) ≡ length m
-unfolding zeroedFrame
-length-zeroed m f = length-splice m (4096 * f) (zeros 4096)
-
--- ---- the sweep's outcome, record by record
-
-or-false : (a b : Bool) → (a || b) ≡ false → (a ≡ false) × (b ≡ false)
-or-false true b h = clash true refl h
-or-false false b h = (refl, h)
-
+-- a choice under two tests of which the second fails
 cond-and : (a b : Bool) (k l : Line) → b ≡ false → cond (a && b) k l ≡ l
 cond-and true b k l h = rw h
 cond-and false b k l h = refl
 
-module _ (ways : ℕ) (s : Shape) (words : List ℕ) (x : Store) (m : List ℕ) (sim : Sim ways s (homeOf s words) x m)
-    (words-are : length words ≡ s .frames) (frames-max : s .frames ≤ 1048576) (uncached-max : s .uncached ≤ s .frames) where
+module _ (ways : ℕ) (s : Shape) (words : List ℕ) (x : Store) (m : List ℕ) (sim : Sim ways s (homeOf s words) x m) where
   abbrev line : ℕ → Line
   line j = lineAt (x .records) j
 
   abbrev held : ℕ → Bool
   held j = holdsAt ways s (x .records) j
 
-  low : (j : ℕ) → held j ≡ true → j < s .lines
-  low j h = let a = held-below ways s j (x .records) h in omega (arith, sim .record-count)
+  -- a record held after a sweep is one of the list
+  swept-below : (v : Visit) (j : ℕ) → holdsAt ways s (visitedAll ways s v x .records) j ≡ true → j < s .lines
+  swept-below v j h =
+      held-listed ways s (visitedAll ways s v x .records) j (s .lines) (swept-cache ways s v x .records-length ∙ sim .record-count) h
 
   -- ---- flush all
 
-  module _ (evict-kept : (y : Store) (i : ℕ) → Sim ways s (homeOf s words) y m → holdsAt ways s (y .records) i ≡ true
-      → Sim ways s (homeOf s words) (dropped i (writtenBack ways s i y)) m) where
-    pub sim-flushed : Sim ways s (homeOf s words) (visitedAll ways s Flush x) m
-    sim-flushed = sim-swept-flush ways s (homeOf s words) m evict-kept x sim
+  pub sim-flushed : Sim ways s (homeOf s words) (visitedAll ways s Flush x) m
+  sim-flushed = sim-swept-flush ways s (homeOf s words) m x sim
 
-    -- ---- unmap
+  -- ---- unmap
 
-    module _ (page f : ℕ) (found : mappedTo s words page ≡ At f) where
-      abbrev gone : Store
-      gone = visitedAll ways s (Unmap page) x
+  module _ (page f : ℕ) (found : mappedTo s words page ≡ At f) where
+    abbrev gone : Store
+    gone = visitedAll ways s (Unmap page) x
 
-      -- a line that is still held is of another page
-      unmapped-name : (j : ℕ) → holdsAt ways s (gone .records) j ≡ true → lineAt (gone .records) j .name / 256 ≢ page
-      unfolding fate fateOf selects
-      unmapped-name j h =
-          let a = swept-alike ways s (Unmap page) x .records-length in
-          let b = held-below ways s j (gone .records) h in
-          let l : j < s .lines = omega (arith, sim .record-count) in
-          let r = swept-line ways s (Unmap page) x j (sim .record-count) l in
-          go (holdsLine ways s j (line j)) (eqb (line j .name / 256) page) refl refl r
-        where
-          go : (t u : Bool) → holdsLine ways s j (line j) ≡ t → eqb (line j .name / 256) page ≡ u → lineAt (gone .records) j ≡ cond (t && u) noLine (line j)
-              → lineAt (gone .records) j .name / 256 ≢ page
-          go true true t u r = clash _ h (held-line ways s j (gone .records) noLine r ∙ holds-none ways s j)
-          go true false t u r = rw r (eqb-false _ _ u)
-          go false u t v r = clash _ h (held-line ways s j (gone .records) (line j) r ∙ t)
+    -- a line that is still held is of another page
+    unmapped-name : (j : ℕ) → holdsAt ways s (gone .records) j ≡ true → lineAt (gone .records) j .name / 256 ≢ page
+    unfolding fate fateOf selects
+    unmapped-name j h =
+        let r = swept-line ways s (Unmap page) x j (sim .record-count) (swept-below (Unmap page) j h) in
+        go (holdsLine ways s j (line j)) (eqb (line j .name / 256) page) refl refl r
+      where
+        go : (t u : Bool) → holdsLine ways s j (line j) ≡ t → eqb (line j .name / 256) page ≡ u → lineAt (gone .records) j ≡ cond (t && u) noLine (line j)
+            → lineAt (gone .records) j .name / 256 ≢ page
+        go true true t u r = clash _ h (held-line ways s (gone .records) j noLine r ∙ holds-none ways s j)
+        go true false t u r = rw r (eqb-false _ _ u)
+        go false u t v r = clash _ h (held-line ways s (gone .records) j (line j) r ∙ t)
 
-      pub sim-unmapped : Sim ways s (homeOf s (set words f 0)) (visitedAll ways s (Unmap page) x) m
-      sim-unmapped =
-          let r = sim-swept-unmap ways s (homeOf s words) m evict-kept page x sim in
-          let q = mapped-frame s words page f found in
-          kept-sim ways s (homeOf s words) (homeOf s (set words f 0)) gone gone m m r
-          (record { records-length = refl; cache-same = refl; memory-length = refl }) refl
-          (λ j h. record {
-            was = h;
-            physical-is = refl;
-            changed-is = refl;
-            maps = home-elsewhere s words f 0 (lineAt (gone .records) j .name) (lineAt (gone .records) j .physical) (lineAt (gone .records) j .write) (q .inside)
-                (r .maps j h) page (q .page-is) (q .odd) (unmapped-name j h) (λ a o. absurd (omega arith));
-          })
-          (λ j k h g. refl) (λ j k h g. refl) (r .bare)
+    pub sim-unmapped : Sim ways s (homeOf s (set words f 0)) (visitedAll ways s (Unmap page) x) m
+    sim-unmapped =
+        let r = sim-swept-unmap ways s (homeOf s words) m page x sim in
+        let q = mapped-frame s words page f found in
+        kept-sim ways s (homeOf s words) (homeOf s (set words f 0)) gone gone m m r
+        (record { records-length = refl; cache-same = refl; memory-length = refl }) refl
+        (λ j h. record {
+          was = h;
+          physical-is = refl;
+          changed-is = refl;
+          maps = home-elsewhere s words f 0 (lineAt (gone .records) j .name) (lineAt (gone .records) j .physical) (lineAt (gone .records) j .write) (q .inside)
+              (r .maps j h) page (q .page-is) (q .odd) (unmapped-name j h) (λ a o. absurd (omega arith));
+        })
+        (λ j k h g. refl) (λ j k h g. refl) (r .bare)
 
   -- ---- protect
 
@@ -213,36 +123,31 @@ module _ (ways : ℕ) (s : Shape) (words : List ℕ) (x : Store) (m : List ℕ) 
           maps = rw r (home-elsewhere s words f (frameWord page write) (line j .name) (line j .physical) (line j .write) (q .inside)
               (sim .maps j t) page (q .page-is) (q .odd) n (λ z _. n (sym z ∙ frame-word-page page write)));
         }
-    relabelled j h false u t v r = clash _ h (held-same ways s j (safe .records) (x .records) r ∙ t)
+    relabelled j h false u t v r = clash _ h (held-same ways s (safe .records) j (x .records) r ∙ t)
 
     safe-line : (j : ℕ) → j < s .lines → lineAt (safe .records) j ≡ cond (held j && eqb (line j .name / 256) page) (permittedLine (line j) write) (line j)
     unfolding fate fateOf selects holdsAt
     safe-line j h = swept-line ways s (Protect page write) x j (sim .record-count) h
 
-    safe-low : (j : ℕ) → holdsAt ways s (safe .records) j ≡ true → j < s .lines
-    safe-low j h =
-        let a = held-below ways s j (safe .records) h in
-        omega (arith, swept-alike ways s (Protect page write) x .records-length, sim .record-count)
-
     -- a line that was held is still held
     safe-held : (j p : ℕ) → held j ≡ true → (t : Bool) → lineAt (safe .records) j ≡ cond t (permittedLine (line j) write) (line j)
         → ((i : ℕ) → holdsAt ways s (safe .records) i ≡ true → lineAt (safe .records) i .physical ≡ p → ⊥) → line j .physical ≡ p → ⊥
     unfolding holdsAt
-    safe-held j p h true r free q = free j (held-line ways s j (safe .records) (permittedLine (line j) write) r ∙ (held-permitted ways s j (line j) write ∙ h)) (rw r q)
-    safe-held j p h false r free q = free j (held-line ways s j (safe .records) (line j) r ∙ h) (rw r q)
+    safe-held j p h true r free q = free j (held-line ways s (safe .records) j (permittedLine (line j) write) r ∙ (holds-permitted ways s j (line j) write ∙ h)) (rw r q)
+    safe-held j p h false r free q = free j (held-line ways s (safe .records) j (line j) r ∙ h) (rw r q)
 
     pub sim-protected : Sim ways s (homeOf s (set words f (frameWord page write))) (visitedAll ways s (Protect page write) x) m
     sim-protected =
         let e = swept-memory-protect ways s x page write in
-        kept-sim ways s (homeOf s words) (homeOf s words′) x safe m m sim (swept-alike ways s (Protect page write) x) refl
-        (λ j h. relabelled j h (held j) (eqb (line j .name / 256) page) refl refl (safe-line j (safe-low j h)))
+        kept-sim ways s (homeOf s words) (homeOf s words′) x safe m m sim (swept-cache ways s (Protect page write) x) refl
+        (λ j h. relabelled j h (held j) (eqb (line j .name / 256) page) refl refl (safe-line j (swept-below (Protect page write) j h)))
         (λ j k h g. rw e) (λ j k h g. refl)
-        (λ p k free b g. rw e (sim .bare p k (λ j h. safe-held j p h (held j && eqb (line j .name / 256) page) (safe-line j (low j h)) free) b g))
+        (λ p k free b g. rw e (sim .bare p k (λ j h. safe-held j p h (held j && eqb (line j .name / 256) page) (safe-line j (held-below sim j h)) free) b g))
 
   -- ---- map
 
-  module _ (page frame : ℕ) (write : Bool) (ordinary : ordinaryPage page ≡ true) (above : s .uncached ≤ frame) (inside : frame < s .frames)
-      (free : getD words frame 0 ≡ 0) (unmapped : mappedTo s words page ≡ Nothing) where
+  module _ (words-are : length words ≡ s .frames) (frames-max : s .frames ≤ 1048576) (page frame : ℕ) (write : Bool) (ordinary : ordinaryPage page ≡ true)
+      (inside : frame < s .frames) (free : getD words frame 0 ≡ 0) (unmapped : mappedTo s words page ≡ Nothing) where
     abbrev clear : Store
     clear = visitedAll ways s (Map page frame) x
 
@@ -252,11 +157,6 @@ module _ (ways : ℕ) (s : Shape) (words : List ℕ) (x : Store) (m : List ℕ) 
     clear-line : (j : ℕ) → j < s .lines → lineAt (clear .records) j ≡ cond (held j && (eqb (line j .name / 256) page || eqb (line j .name / 256) (directPage frame))) noLine (line j)
     unfolding fate fateOf selects holdsAt
     clear-line j h = swept-line ways s (Map page frame) x j (sim .record-count) h
-
-    clear-low : (j : ℕ) → holdsAt ways s (clear .records) j ≡ true → j < s .lines
-    clear-low j h =
-        let a = held-below ways s j (clear .records) h in
-        omega (arith, swept-alike ways s (Map page frame) x .records-length, sim .record-count)
 
     -- a line outside the frame's prefix 1 range is in another frame, and one in another frame is outside the page and the range
     out-frame : (n p : ℕ) (w : Bool) → Homed s words n p w → n / 256 ≢ directPage frame → p / 256 ≢ frame
@@ -273,8 +173,8 @@ module _ (ways : ℕ) (s : Shape) (words : List ℕ) (x : Store) (m : List ℕ) 
         → (eqb (line j .name / 256) page || eqb (line j .name / 256) (directPage frame)) ≡ u
         → lineAt (clear .records) j ≡ cond (t && u) noLine (line j)
         → Kept ways s (homeOf s given) x (zeroedStore frame clear) j × (lineAt (clear .records) j .physical / 256 ≢ frame)
-    cleared j h true true t u r = clash _ h (held-line ways s j (clear .records) noLine r ∙ holds-none ways s j)
-    cleared j h false u t v r = clash _ h (held-same ways s j (clear .records) (x .records) r ∙ t)
+    cleared j h true true t u r = clash _ h (held-line ways s (clear .records) j noLine r ∙ holds-none ways s j)
+    cleared j h false u t v r = clash _ h (held-same ways s (clear .records) j (x .records) r ∙ t)
     cleared j h true false t u r =
         let n = or-false (eqb (line j .name / 256) page) (eqb (line j .name / 256) (directPage frame)) u in
         let h₁ = sim .maps j t in
@@ -292,40 +192,40 @@ module _ (ways : ℕ) (s : Shape) (words : List ℕ) (x : Store) (m : List ℕ) 
 
     cleared-at : (j : ℕ) → holdsAt ways s (clear .records) j ≡ true
         → Kept ways s (homeOf s given) x (zeroedStore frame clear) j × (lineAt (clear .records) j .physical / 256 ≢ frame)
-    cleared-at j h = cleared j h (held j) _ refl refl (clear-line j (clear-low j h))
+    cleared-at j h = cleared j h (held j) _ refl refl (clear-line j (swept-below (Map page frame) j h))
 
     clear-bare : (p k : ℕ) → ((j : ℕ) → holdsAt ways s (clear .records) j ≡ true → lineAt (clear .records) j .physical ≡ p → ⊥) → p < 256 * s .frames → k < 16
         → (t : Bool) → eqb (p / 256) frame ≡ t → byte (zeroedFrame m frame) p k ≡ byte (zeroedFrame (x .memory) frame) p k
     clear-bare p k none g h true t =
         let q : p / 256 ≡ frame = eqb-true _ _ t in
-        zeroed-in m frame p k q h (omega (arith, sim .flat-count)) ∙ sym (zeroed-in (x .memory) frame p k q h (omega (arith, sim .memory-count)))
+        zeroed-line-in m frame p k q h (omega (arith, sim .flat-count)) ∙ sym (zeroed-line-in (x .memory) frame p k q h (omega (arith, sim .memory-count)))
     clear-bare p k none g h false t =
         let q : p / 256 ≢ frame = eqb-false _ _ t in
-        zeroed-out m frame p k q h ∙ (sim .bare p k not-here g h ∙ sym (zeroed-out (x .memory) frame p k q h))
+        zeroed-line-out m frame p k q h ∙ (sim .bare p k not-here g h ∙ sym (zeroed-line-out (x .memory) frame p k q h))
       where
         not-here : (j : ℕ) → held j ≡ true → line j .physical ≡ p → ⊥
         not-here j o z =
             let a = frame-out (line j .name) (line j .physical) (line j .write) (homed s words (line j .name) (line j .physical) (line j .write) (sim .maps j o))
             (rw z (eqb-false (p / 256) frame t)) in
             let b : (eqb (line j .name / 256) page || eqb (line j .name / 256) (directPage frame)) ≡ false = rw (ne-eqb _ _ (a .0), ne-eqb _ _ (a .1)) in
-            let r : lineAt (clear .records) j ≡ line j = clear-line j (low j o) ∙ cond-and (held j) _ noLine (line j) b in
-            none j (held-same ways s j (clear .records) (x .records) r ∙ o) (rw r z)
+            let r : lineAt (clear .records) j ≡ line j = clear-line j (held-below sim j o) ∙ cond-and (held j) _ noLine (line j) b in
+            none j (held-same ways s (clear .records) j (x .records) r ∙ o) (rw r z)
 
     -- the lines of the page and of the frame's prefix 1 range dropped, and the frame filled with zeros
     pub sim-cleared : Sim ways s (homeOf s (set words frame (frameWord page write))) (zeroedStore frame (visitedAll ways s (Map page frame) x)) (zeroedFrame m frame)
     sim-cleared =
         let e = swept-memory-map ways s x page frame in
-        let a = swept-alike ways s (Map page frame) x in
+        let a = swept-cache ways s (Map page frame) x in
         kept-sim ways s (homeOf s words) (homeOf s given) x (zeroedStore frame clear) m (zeroedFrame m frame) sim
         (record { records-length = a .records-length; cache-same = a .cache-same; memory-length = length-zeroed (clear .memory) frame ∙ a .memory-length })
         (length-zeroed m frame) (λ j h. cleared-at j h .0)
-        (λ j k h g. rw e (zeroed-out (x .memory) frame (lineAt (clear .records) j .physical) k (cleared-at j h .1) g))
-        (λ j k h g. zeroed-out m frame (lineAt (clear .records) j .physical) k (cleared-at j h .1) g)
+        (λ j k h g. rw e (zeroed-line-out (x .memory) frame (lineAt (clear .records) j .physical) k (cleared-at j h .1) g))
+        (λ j k h g. zeroed-line-out m frame (lineAt (clear .records) j .physical) k (cleared-at j h .1) g)
         (λ p k none g h. rw e (clear-bare p k none g h (eqb (p / 256) frame) refl))
 
   -- ---- accesses past the cache, below the frames that are mapped
 
-  module _ (at width : ℕ) (fit : at % 16 + width ≤ 16) (under : at / 4096 < s .uncached) where
+  module _ (uncached-max : s .uncached ≤ s .frames) (at width : ℕ) (fit : at % 16 + width ≤ 16) (under : at / 4096 < s .uncached) where
     -- no line there is held
     memory-free : (j : ℕ) → held j ≡ true → line j .physical ≡ at / 16 → ⊥
     memory-free j h q =
@@ -350,11 +250,3 @@ module _ (ways : ℕ) (s : Shape) (words : List ℕ) (x : Store) (m : List ℕ) 
         (λ j k h g. splice-apart m at (digits width v) (at / 16) (line j .physical) k (omega arith) (omega arith) (memory-free j h) g)
         (λ p k none g h. splice-match m (x .memory) (digits width v) at at (16 * p + k) (16 * p + k) refl
         (omega (arith, sim .flat-count)) (omega (arith, sim .memory-count)) (sim .bare p k none g h))
-
--- map, with one line in a set
-pub sim-mapped : (s : Shape) (words : List ℕ) (x : Store) (m : List ℕ) → Sim 1 s (homeOf s words) x m
-    → length words ≡ s .frames → s .frames ≤ 1048576 → s .uncached ≤ s .frames
-    → (page frame : ℕ) (write : Bool) → ordinaryPage page ≡ true → s .uncached ≤ frame → frame < s .frames → getD words frame 0 ≡ 0 → mappedTo s words page ≡ Nothing
-    → Sim 1 s (homeOf s (set words frame (frameWord page write))) (mapped s page frame write (record { words = words; store = x }) .store) (zeroedFrame m frame)
-unfolding mapped
-sim-mapped s words x m = sim-cleared 1 s words x m

@@ -1,6 +1,6 @@
 -- A store (records, cache bytes, memory) stands for a flat memory. Everything is indexed by line and offset in it.
 -- Stated over the number of lines in a set, and over any map from line names to homes that never gives two names one home.
-use Prim.Native.Nat.{ℕ, _+_, _*_, _/_, _≤_, _<_}
+use Prim.Native.Nat.{ℕ, _+_, _*_, _/_, _<_}
 use mathlib.Core.Path.{_≡_}
 use mathlib.Core.Bool.{Bool, true, false}
 use mathlib.Core.List.{List}

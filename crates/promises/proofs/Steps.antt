@@ -1,100 +1,46 @@
--- The steps on the store keep it standing for a flat memory: a line written back and dropped, a line filled, bytes stored.
-use Prim.Native.Nat.{ℕ, suc, zero, _+_, _*_, _/_, _%_, _≤_, _<_}
+-- The steps on the store keep it standing for a flat memory: a line written back and dropped, a line filled, bytes stored, and a miss.
+-- Stands on Bytes, Held and one law of a changed record.
+use Prim.Native.Nat.{ℕ, _+_, _*_, _/_, _≤_, _<_}
 use mathlib.Core.Logic.{_≢_}
 use mathlib.Core.Path.{_≡_, refl, sym, _∙_}
-use mathlib.Core.Bool.{Bool, true, false, _&&_, cond}
+use mathlib.Core.Bool.{Bool, true, false, _&&_}
 use mathlib.Core.List.{List}
-use native.Mathlib.Nat.{div-add-mod', mod-lt}
 use native.Mathlib.Omega.{arith}
-use lib.Dec.{eqb, ltb}
-use lib.ListN.{length, getD, set, List·getD-eq-default}
+use lib.Dec.{eqb}
+use lib.ListN.{length, set}
 use lib.Seq.{set-set, set-comm}
-use borrow.Author.Tests.{eqb-true, eqb-false, ltb-true, ltb-false, eq-eqb, lt-ltb}
+use borrow.Author.Tests.{eqb-true, eqb-false}
 use Rattle.board.specs.Lists.{splice, part}
 use Rattle.board.specs.declared.Shape.{Shape}
-use Rattle.board.specs.declared.Found.{Found}
-use Rattle.board.specs.declared.Found.the-variants.{At, Nothing}
+use Rattle.board.specs.declared.Found.the-variants.{Nothing}
 use Rattle.board.specs.declared.Home.{Home}
 use Rattle.board.specs.declared.Home.the-variants.{Line as HomeLine}
-use Rattle.board.proofs.Bools.{and-left, and-right}
+use Rattle.board.proofs.Bools.{clash, cond-both}
 use Rattle.board.proofs.Lists.{length-splice}
 use Rattle.lines.specs.Bytes.{lineOf, withLine}
 use Rattle.lines.specs.Records.{wordOf, lineAt, putLine, noLine, newLine, changedLine}
-use Rattle.lines.specs.Stores.{Store, store, placeOf, holdsLine, holdsAt, holderFrom, holderOf, writtenBack, filled, noted, inserted, dropped}
+use Rattle.lines.specs.Stores.{Store, store, placeOf, holdsLine, holdsAt, holderOf, writtenBack, filled, noted, inserted, dropped}
 use Rattle.lines.specs.declared.Line.{Line}
+use Rattle.lines.proofs.Bytes.{length-line}
 use Rattle.lines.proofs.Records.{length-put, line-put-same, line-put-other}
 use Rattle.promises.proofs.Sim.{byte, Homes, Sim}
 use Rattle.promises.proofs.Bytes.{splice-apart, splice-match, copied-at, copied-other}
-
-pub clash : {A : Type 0} (t : Bool) → t ≡ true → t ≡ false → A
-clash t a b = let z : _≡_ {A = ℕ} 0 1 = cc in absurd (omega arith)
-
--- ---- what holds a line
-
-module _ (ways : ℕ) (s : Shape) (i : ℕ) (l : Line) (h : holdsLine ways s i l ≡ true) where
-  pub holds-place : i / ways ≡ placeOf ways s (l .name)
-  unfolding holdsLine
-  holds-place = eqb-true _ _ (and-left (eqb (i / ways) (placeOf ways s (l .name))) _ (and-right (l .valid) _ h))
-
-  pub holds-in : l .physical < 256 * s .frames
-  unfolding holdsLine
-  holds-in = ltb-true _ _ (and-right (eqb (i / ways) (placeOf ways s (l .name))) _ (and-right (l .valid) _ h))
-
-pub holds-none : (ways : ℕ) (s : Shape) (i : ℕ) → holdsLine ways s i noLine ≡ false
-unfolding holdsLine
-holds-none ways s i = refl
-
-pub holds-new : (ways : ℕ) (s : Shape) (i name p : ℕ) (w : Bool) → i / ways ≡ placeOf ways s name → p < 256 * s .frames
-    → holdsLine ways s i (newLine name p w) ≡ true
-unfolding holdsLine
-holds-new ways s i name p w a b = let x = eq-eqb _ _ a in let y = lt-ltb _ _ b in rw (x, y) refl
-
-module _ (ways : ℕ) (s : Shape) (r : List ℕ) (i : ℕ) where
-  pub held-place : holdsAt ways s r i ≡ true → i / ways ≡ placeOf ways s (lineAt r i .name)
-  unfolding holdsAt
-  held-place h = holds-place ways s i (lineAt r i) h
-
-  pub held-in : holdsAt ways s r i ≡ true → lineAt r i .physical < 256 * s .frames
-  unfolding holdsAt
-  held-in h = holds-in ways s i (lineAt r i) h
-
-  pub held-put-same : (l : Line) → 2 * i + 2 ≤ length r → holdsAt ways s (putLine r i l) i ≡ holdsLine ways s i l
-  unfolding holdsAt
-  held-put-same l h = rw (line-put-same r i l h) refl
-
-  pub held-put-other : (l : Line) (j : ℕ) → j ≢ i → holdsAt ways s (putLine r i l) j ≡ holdsAt ways s r j
-  unfolding holdsAt
-  held-put-other l j n = rw (line-put-other r i l j (λ e. n (sym e))) refl
-
-  -- a record past the list has the words 0
-  past-none : length r ≤ 2 * i → holdsAt ways s r i ≡ false
-  unfolding holdsAt holdsLine lineAt
-  past-none h =
-      let z : getD r (2 * i + 1) 0 ≡ 0 = List·getD-eq-default r 0 (omega arith) in
-      rw z refl
-
-  -- a held record is one of the list
-  pub held-listed : (n : ℕ) → length r ≡ 2 * n → holdsAt ways s r i ≡ true → i < n
-  held-listed n e h = go (ltb i n) refl
-    where
-      go : (t : Bool) → ltb i n ≡ t → i < n
-      go true t = ltb-true _ _ t
-      go false t = let d = ltb-false i n t in clash _ h (past-none (omega arith))
+use Rattle.promises.proofs.Held.{holds-none, holds-new, held-in, held-put-same, held-put-other, held-below, holder-nothing}
 
 -- ---- one record changed: what has to be shown of the others, of this one, and of the rest
 
 -- the new line of record i, if it is held
-pub record Own (ways : ℕ) (s : Shape) (home : ℕ → Home) (r : List ℕ) (i : ℕ) (l : Line) (cache memory m : List ℕ) : Type 0 where
-  pub alone : (j : ℕ) → j ≢ i → holdsAt ways s r j ≡ true → lineAt r j .physical ≢ l .physical
-  pub maps : home (l .name) ≡ HomeLine (l .physical) (l .write)
-  pub clean : (k : ℕ) → l .changed ≡ false → k < 16 → byte cache i k ≡ byte memory (l .physical) k
-  pub cached : (k : ℕ) → k < 16 → byte m (l .physical) k ≡ byte cache i k
+record Own (ways : ℕ) (s : Shape) (home : ℕ → Home) (r : List ℕ) (i : ℕ) (l : Line) (cache memory m : List ℕ) : Type 0 where
+  alone : (j : ℕ) → j ≢ i → holdsAt ways s r j ≡ true → lineAt r j .physical ≢ l .physical
+  maps : home (l .name) ≡ HomeLine (l .physical) (l .write)
+  clean : (k : ℕ) → l .changed ≡ false → k < 16 → byte cache i k ≡ byte memory (l .physical) k
+  cached : (k : ℕ) → k < 16 → byte m (l .physical) k ≡ byte cache i k
 
 -- byte k of another held line, whose physical line is p
-pub record Kept (x : Store) (j p k : ℕ) (cache memory m m′ : List ℕ) : Type 0 where
-  pub in-cache : byte cache j k ≡ byte (x .cache) j k
-  pub in-memory : byte memory p k ≡ byte (x .memory) p k
-  pub in-flat : byte m′ p k ≡ byte m p k
+record KeptByte (x : Store) (j p k : ℕ) (cache memory m m′ : List ℕ) : Type 0 where
+  in-cache : byte cache j k ≡ byte (x .cache) j k
+  in-memory : byte memory p k ≡ byte (x .memory) p k
+  in-flat : byte m′ p k ≡ byte m p k
 
 module _ {ways : ℕ} {s : Shape} {home : ℕ → Home} {x : Store} {m : List ℕ} (sim : Sim ways s home x m)
     (i : ℕ) (l : Line) (cache memory m′ : List ℕ) (low : i < s .lines) where
@@ -121,7 +67,7 @@ module _ {ways : ℕ} {s : Shape} {home : ℕ → Home} {x : Store} {m : List �
           other n (line-put-other (x .records) i l j (λ e. n (sym e))) (held-put-other ways s (x .records) i l j n)
 
   module _ (same-cache : length cache ≡ length (x .cache)) (same-memory : length memory ≡ length (x .memory)) (same-flat : length m′ ≡ length m)
-      (kept : (j k : ℕ) → j ≢ i → holdsAt ways s (x .records) j ≡ true → k < 16 → Kept x j (lineAt (x .records) j .physical) k cache memory m m′)
+      (kept : (j k : ℕ) → j ≢ i → holdsAt ways s (x .records) j ≡ true → k < 16 → KeptByte x j (lineAt (x .records) j .physical) k cache memory m m′)
       (own : holdsLine ways s i l ≡ true → Own ways s home (x .records) i l cache memory m′)
       (rest : (p k : ℕ) → ((j : ℕ) → j ≢ i → holdsAt ways s (x .records) j ≡ true → lineAt (x .records) j .physical ≢ p)
       → (holdsLine ways s i l ≡ true → l .physical ≢ p) → p < 256 * s .frames → k < 16 → byte m′ p k ≡ byte memory p k) where
@@ -162,7 +108,7 @@ module _ {ways : ℕ} {s : Shape} {home : ℕ → Home} {x : Store} {m : List �
         not-own (here q r t) o = λ z. free i (t ∙ o) (cc)
         not-own (other q r t) o = absurd (q refl)
 
-    pub changed-sim : Sim ways s home (store (putLine (x .records) i l) cache memory) m′
+    changed-sim : Sim ways s home (store (putLine (x .records) i l) cache memory) m′
     changed-sim = record {
       ways-pos = sim .ways-pos;
       sets-pos = sim .sets-pos;
@@ -179,26 +125,24 @@ module _ {ways : ℕ} {s : Shape} {home : ℕ → Home} {x : Store} {m : List �
 
 -- ---- the steps
 
--- a write-back changes memory only
+-- a write-back changes memory only, and not its length
 module _ (ways : ℕ) (s : Shape) (i : ℕ) (x : Store) where
   pub written-records : writtenBack ways s i x .records ≡ x .records
   unfolding writtenBack
-  written-records = go (holdsAt ways s (x .records) i && lineAt (x .records) i .changed)
-    where
-      go : (t : Bool) → cond t (store (x .records) (x .cache) (withLine (x .memory) (lineAt (x .records) i .physical) (lineOf (x .cache) i))) x .records ≡ x .records
-      go true = refl
-      go false = refl
+  written-records = cond-both (λ (y : Store). y .records ≡ x .records) (holdsAt ways s (x .records) i && lineAt (x .records) i .changed) _ _ refl refl
 
   pub written-cache : writtenBack ways s i x .cache ≡ x .cache
   unfolding writtenBack
-  written-cache = go (holdsAt ways s (x .records) i && lineAt (x .records) i .changed)
-    where
-      go : (t : Bool) → cond t (store (x .records) (x .cache) (withLine (x .memory) (lineAt (x .records) i .physical) (lineOf (x .cache) i))) x .cache ≡ x .cache
-      go true = refl
-      go false = refl
+  written-cache = cond-both (λ (y : Store). y .cache ≡ x .cache) (holdsAt ways s (x .records) i && lineAt (x .records) i .changed) _ _ refl refl
+
+  pub length-written : length (writtenBack ways s i x .memory) ≡ length (x .memory)
+  unfolding writtenBack
+  length-written =
+      cond-both (λ (y : Store). length (y .memory) ≡ length (x .memory)) (holdsAt ways s (x .records) i && lineAt (x .records) i .changed) _ _
+      (length-line (x .memory) (lineAt (x .records) i .physical) (lineOf (x .cache) i)) refl
 
   -- a line that is not held is not written back
-  pub written-unheld : holdsAt ways s (x .records) i ≡ false → writtenBack ways s i x ≡ x
+  written-unheld : holdsAt ways s (x .records) i ≡ false → writtenBack ways s i x ≡ x
   unfolding writtenBack
   written-unheld h = rw h refl
 
@@ -206,29 +150,23 @@ module _ (ways : ℕ) (s : Shape) (i : ℕ) (x : Store) where
   unfolding dropped noted
   evict-records = rw written-records refl
 
-  -- after an eviction the other records are as before, and record i holds nothing
-  pub evict-line-other : (j : ℕ) → j ≢ i → lineAt (dropped i (writtenBack ways s i x) .records) j ≡ lineAt (x .records) j
+  -- after it is dropped too, the other records are as before, and record i holds nothing
+  evict-line-other : (j : ℕ) → j ≢ i → lineAt (dropped i (writtenBack ways s i x) .records) j ≡ lineAt (x .records) j
   evict-line-other j n = rw evict-records (line-put-other (x .records) i noLine j (λ e. n (sym e)))
 
-  pub evict-held-other : (j : ℕ) → j ≢ i → holdsAt ways s (dropped i (writtenBack ways s i x) .records) j ≡ holdsAt ways s (x .records) j
+  evict-held-other : (j : ℕ) → j ≢ i → holdsAt ways s (dropped i (writtenBack ways s i x) .records) j ≡ holdsAt ways s (x .records) j
   evict-held-other j n = rw evict-records (held-put-other ways s (x .records) i noLine j n)
 
-  pub evict-line-same : 2 * i + 2 ≤ length (x .records) → lineAt (dropped i (writtenBack ways s i x) .records) i ≡ noLine
-  evict-line-same h = rw evict-records (line-put-same (x .records) i noLine h)
-
-  pub evict-held-same : 2 * i + 2 ≤ length (x .records) → holdsAt ways s (dropped i (writtenBack ways s i x) .records) i ≡ false
+  evict-held-same : 2 * i + 2 ≤ length (x .records) → holdsAt ways s (dropped i (writtenBack ways s i x) .records) i ≡ false
   evict-held-same h = rw evict-records (held-put-same ways s (x .records) i noLine h ∙ holds-none ways s i)
 
 -- a record put twice is the last put
-pub put-put : (r : List ℕ) (i : ℕ) (l n : Line) → putLine (putLine r i l) i n ≡ putLine r i n
+put-put : (r : List ℕ) (i : ℕ) (l n : Line) → putLine (putLine r i l) i n ≡ putLine r i n
 unfolding putLine
 put-put r i l n =
     rw (set-comm (set r (2 * i) (l .name)) (2 * i + 1) (2 * i) (wordOf l) (n .name) (λ e. omega arith)) (simp set-set)
 
 module _ {ways : ℕ} {s : Shape} {home : ℕ → Home} {x : Store} {m : List ℕ} (sim : Sim ways s home x m) where
-  pub held-below : (i : ℕ) → holdsAt ways s (x .records) i ≡ true → i < s .lines
-  held-below i h = held-listed ways s (x .records) i (s .lines) (sim .record-count) h
-
   -- no record holds physical line q: not i, and none of the others
   none-holds : (i q : ℕ) → ((j : ℕ) → j ≢ i → holdsAt ways s (x .records) j ≡ true → lineAt (x .records) j .physical ≢ q)
       → (holdsAt ways s (x .records) i ≡ true → lineAt (x .records) i .physical ≢ q)
@@ -240,12 +178,12 @@ module _ {ways : ℕ} {s : Shape} {home : ℕ → Home} {x : Store} {m : List �
       go false u = others j (eqb-false j i u) o
 
   -- a held line goes, once memory has its bytes
-  pub sim-drop : (i : ℕ) (memory : List ℕ) → holdsAt ways s (x .records) i ≡ true → length memory ≡ length (x .memory)
+  sim-drop : (i : ℕ) (memory : List ℕ) → holdsAt ways s (x .records) i ≡ true → length memory ≡ length (x .memory)
       → ((k : ℕ) → k < 16 → byte memory (lineAt (x .records) i .physical) k ≡ byte (x .cache) i k)
       → ((p k : ℕ) → p ≢ lineAt (x .records) i .physical → k < 16 → byte memory p k ≡ byte (x .memory) p k)
       → Sim ways s home (store (putLine (x .records) i noLine) (x .cache) memory) m
   sim-drop i memory h mc at away =
-      changed-sim sim i noLine (x .cache) memory m (held-below i h) refl mc refl
+      changed-sim sim i noLine (x .cache) memory m (held-below sim i h) refl mc refl
       (λ j k n o b. record { in-cache = refl; in-memory = away (lineAt (x .records) j .physical) k (λ z. n (sim .once j i o h z)) b; in-flat = refl })
       (λ o. clash _ o (holds-none ways s i))
       (λ p k free _ b d. rest p k free b d (eqb p (lineAt (x .records) i .physical)) refl)
@@ -264,7 +202,7 @@ module _ {ways : ℕ} {s : Shape} {home : ℕ → Home} {x : Store} {m : List �
       go false d = rw (h, d) (sim-drop i (x .memory) h refl (λ k b. sym (sim .clean i k h d b)) (λ p k n b. refl))
       go true d =
           let a = held-in ways s (x .records) i h in
-          let b = held-below i h in
+          let b = held-below sim i h in
           let y : 16 * lineAt (x .records) i .physical + 16 ≤ length (x .memory) = omega (arith, sim .memory-count) in
           let z : 16 * i + 16 ≤ length (x .cache) = omega (arith, sim .cache-count) in
           rw (h, d) (sim-drop i (splice (x .memory) (16 * lineAt (x .records) i .physical) (part (x .cache) (16 * i) 16)) h (length-splice _ _ _)
@@ -272,7 +210,7 @@ module _ {ways : ℕ} {s : Shape} {home : ℕ → Home} {x : Store} {m : List �
           (copied-other (x .memory) (x .cache) (lineAt (x .records) i .physical) i y z))
 
   -- a line filled where none is held, from a physical line that no record holds
-  pub sim-fill : Homes s home → (i name p : ℕ) (w : Bool) → i < s .lines → holdsAt ways s (x .records) i ≡ false → home name ≡ HomeLine p w
+  sim-fill : Homes s home → (i name p : ℕ) (w : Bool) → i < s .lines → holdsAt ways s (x .records) i ≡ false → home name ≡ HomeLine p w
       → ((j : ℕ) → holdsAt ways s (x .records) j ≡ true → lineAt (x .records) j .physical ≢ p)
       → Sim ways s home (noted i (newLine name p w) (filled i p x)) m
   unfolding noted filled withLine lineOf
@@ -298,7 +236,7 @@ module _ {ways : ℕ} {s : Shape} {home : ℕ → Home} {x : Store} {m : List �
   unfolding holdsAt holdsLine
   sim-stored i off vs h f =
       let a = held-in ways s (x .records) i h in
-      let b = held-below i h in
+      let b = held-below sim i h in
       changed-sim sim i (changedLine (lineAt (x .records) i))
       (splice (x .cache) (16 * i + off) vs) (x .memory) (splice m (16 * lineAt (x .records) i .physical + off) vs) b
       (length-splice _ _ _) refl (length-splice _ _ _)
@@ -321,65 +259,10 @@ module _ {ways : ℕ} {s : Shape} {home : ℕ → Home} {x : Store} {m : List �
       splice-apart m (16 * lineAt (x .records) i .physical + off) vs (lineAt (x .records) i .physical) q k (omega arith) (omega arith) n g
       ∙ sim .bare q k (none-holds i q others (λ _. own h)) d g)
 
--- ---- searches
-
--- one turn of a search
-pub turn-at : (t : Bool) (i j : ℕ) (rest : Found) (P : ℕ → Type 0) → (t ≡ true → P i) → (rest ≡ At j → P j) → cond t (At i) rest ≡ At j → P j
-turn-at true i j rest P first later h = let a : i ≡ j = cc in rw a at (first refl)
-turn-at false i j rest P first later h = later h
-
-pub turn-nothing : (t : Bool) (i : ℕ) (rest : Found) → cond t (At i) rest ≡ Nothing → (t ≡ false) × (rest ≡ Nothing)
-turn-nothing true i rest h = let z : _≡_ {A = ℕ} 0 1 = cc in absurd (omega arith)
-turn-nothing false i rest h = (refl, h)
-
--- a record from i on is i, or from the next on
-pub here-or-later : (P : ℕ → Type 0) (i j : ℕ) → i ≤ j → P i → (suc i ≤ j → P j) → P j
-here-or-later P i j a first later = go (eqb j i) refl
-  where
-    go : (t : Bool) → eqb j i ≡ t → P j
-    go true t = let q : i ≡ j = sym (eqb-true j i t) in rw q at first
-    go false t = let q = eqb-false j i t in later (omega arith)
-
--- the search for a name
-module _ (ways : ℕ) (s : Shape) (r : List ℕ) (name : ℕ) where
-  from-some : (i n j : ℕ) → holderFrom ways s r name i n ≡ At j → (holdsAt ways s r j ≡ true) × (lineAt r j .name ≡ name)
-  unfolding holderFrom
-  from-some i zero j h = let z : _≡_ {A = ℕ} 0 1 = cc in absurd (omega arith)
-  from-some i (suc n) j h =
-      turn-at (eqb (lineAt r i .name) name && holdsAt ways s r i) i j (holderFrom ways s r name (suc i) n)
-      (λ k. (holdsAt ways s r k ≡ true) × (lineAt r k .name ≡ name))
-      (λ t. (and-right (eqb (lineAt r i .name) name) _ t, eqb-true _ _ (and-left (eqb (lineAt r i .name) name) _ t)))
-      (from-some (suc i) n j) h
-
-  from-none : (i n j : ℕ) → holderFrom ways s r name i n ≡ Nothing → i ≤ j → j < i + n → holdsAt ways s r j ≡ true → lineAt r j .name ≢ name
-  unfolding holderFrom
-  from-none i zero j h a b = absurd (omega arith)
-  from-none i (suc n) j h a b =
-      let z = turn-nothing (eqb (lineAt r i .name) name && holdsAt ways s r i) i (holderFrom ways s r name (suc i) n) h in
-      here-or-later (λ k. holdsAt ways s r k ≡ true → lineAt r k .name ≢ name) i j a
-      (λ d e. let y = eq-eqb _ _ e in clash (eqb (lineAt r i .name) name && holdsAt ways s r i) (rw (d, y) refl) (z .0))
-      (λ c. from-none (suc i) n j (z .1) c (omega arith))
-
-  -- what the search finds holds the name
-  pub holder-some : (j : ℕ) → holderOf ways s r name ≡ At j → (holdsAt ways s r j ≡ true) × (lineAt r j .name ≡ name)
-  unfolding holderOf
-  holder-some j h = from-some _ _ j h
-
-  -- where it finds nothing, no record holds the name
-  pub holder-nothing : (j : ℕ) → 0 < ways → holderOf ways s r name ≡ Nothing → holdsAt ways s r j ≡ true → lineAt r j .name ≢ name
-  unfolding holderOf
-  holder-nothing j w h d z =
-      let a = held-place ways s r j d in
-      let b = div-add-mod' j ways in
-      let e = mod-lt j w in
-      let q : j / ways ≡ name % (s .lines / ways) = cc in
-      let b′ = rw q at b in
-      from-none (name % (s .lines / ways) * ways) ways j h (omega arith) (omega arith) d z
-
 -- ---- a miss
 
 -- the held line may be dropped before: its record is put anew
-pub inserted-dropped : (ways : ℕ) (s : Shape) (i name p : ℕ) (w : Bool) (x : Store)
+inserted-dropped : (ways : ℕ) (s : Shape) (i name p : ℕ) (w : Bool) (x : Store)
     → inserted ways s i name p w x ≡ noted i (newLine name p w) (filled i p (dropped i (writtenBack ways s i x)))
 unfolding inserted noted filled dropped
 inserted-dropped ways s i name p w x = rw put-put refl

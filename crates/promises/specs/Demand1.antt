@@ -11,6 +11,7 @@ use Rattle.machine.specs.Boards.{Board, refused}
 use Rattle.machine.specs.Refusals.{Row}
 use Rattle.machine.specs.Accesses.{userTable, supervisorTable}
 use Rattle.machine.specs.Calls.{attachTable, detachTable, mapTable, pageTable, flushTable, tagTable, loadAndMapTable, dropTagTable}
+use Rattle.machine.specs.Looks.{lookTable, lookNumber, look}
 use Rattle.promises.specs.Runs.{Supervisor, access, attach, detach, map, unmap, protect, flushAll, tag, loadAndMap, dropTag, Call, user, supervisor, step}
 
 -- the table of a call
@@ -47,5 +48,11 @@ pub record Refusals (s : Shape) (b : Board) (k : Call) : Type 0 where
   -- refused: value 0, mark 0 and nothing changed
   pub nothing-changed : (step s b k .answer .number ≡ 0 → ⊥) → step s b k ≡ refused b (step s b k .answer .number)
 
-abbrev pub Demand1 : Type 0
-Demand1 = (s : Shape) (b : Board) (k : Call) → Refusals s b k
+-- the same of look, which changes nothing: its number is the lowest that applies, and refused it gives an empty part
+pub record LookRefusals (s : Shape) (b : Board) (line : ℕ) : Type 0 where
+  pub number-is-lowest : Lowest (lookTable s b line) (lookNumber s b line)
+  pub nothing-given : (lookNumber s b line ≡ 0 → ⊥) → look s b line ≡ []
+
+pub record Demand1 : Type 0 where
+  pub calls : (s : Shape) (b : Board) (k : Call) → Refusals s b k
+  pub looks : (s : Shape) (b : Board) (line : ℕ) → LookRefusals s b line

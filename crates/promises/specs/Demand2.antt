@@ -1,20 +1,21 @@
 -- Demand 2. From a fresh board, any sequence of calls gives the answers and values of the plain machine. It refuses
 -- only when that machine does. A permitted access to a mapped page is done in that same call, with at most one line refilled.
-use Prim.Native.Nat.{ℕ, _%_}
+use Prim.Native.Nat.{ℕ}
 use mathlib.Core.Path.{_≡_}
 use mathlib.Core.List.{List}
-use Rattle.address.specs.Addresses.{nameOf}
+use Rattle.address.specs.Addresses.{nameOf, regionOf}
 use Rattle.address.specs.declared.Effective.{Effective}
 use Rattle.address.specs.declared.Global.{Global}
+use Rattle.address.specs.declared.Region.the-variants.{Uncached}
 use Rattle.board.specs.declared.Shape.{Shape}
 use Rattle.lines.specs.Bytes.{lineOf}
 use Rattle.lines.specs.Records.{lineAt}
 use Rattle.lines.specs.Stores.{Store, placeOf}
 use Rattle.lines.specs.declared.Access.{Access}
-use Rattle.machine.specs.Boards.{ways, Board, fresh}
+use Rattle.machine.specs.Boards.{ways, Board, Fresh}
 use Rattle.machine.specs.Accesses.{userGlobal, userAccess, supervisorAccess}
-use Rattle.machine.specs.Looks.{look}
-use Rattle.promises.specs.Plain.{plainLook}
+use Rattle.machine.specs.Looks.{lookNumber, look}
+use Rattle.promises.specs.Plain.{plainLook, plainLookNumber}
 use Rattle.promises.specs.Runs.{Call, step, after, replies, plainStep, plainAfter, plainReplies, plainOf}
 use Rattle.promises.specs.Sound.{Sound, Shows}
 
@@ -24,6 +25,7 @@ pub record Alike (s : Shape) (b : Board) (memory : List ℕ) (ks : List Call) : 
   pub same-replies : replies s b ks ≡ plainReplies s (plainOf b memory) ks
   -- at every moment look shows the plain machine's memory (`ks` is any list, so any first part of a run too)
   pub same-bytes : (line : ℕ) → look s (after s b ks) line ≡ plainLook s (plainAfter s (plainOf b memory) ks) line
+  pub same-look-number : (line : ℕ) → lookNumber s (after s b ks) line ≡ plainLookNumber s (plainAfter s (plainOf b memory) ks) line
   -- a call that the plain machine does is done in that same call
   pub done-at-once : (k : Call) → plainStep s (plainAfter s (plainOf b memory) ks) k .number ≡ 0 → step s (after s b ks) k .answer .number ≡ 0
 
@@ -32,9 +34,9 @@ pub record OnlyAt (place : ℕ) (x y : Store) : Type 0 where
   pub same-records : (i : ℕ) → (i ≡ place → ⊥) → lineAt (y .records) i ≡ lineAt (x .records) i
   pub same-cache : (i : ℕ) → (i ≡ place → ⊥) → lineOf (y .cache) i ≡ lineOf (x .cache) i
 
--- of a fresh board
+-- of any fresh board, with the plain machine started on the same memory
 abbrev pub Demand2 : Type 0
-Demand2 = (s : Shape) (cache memory : List ℕ) (ks : List Call) → Alike s (fresh s cache memory) memory ks
+Demand2 = (s : Shape) (b : Board) → Fresh b → (ks : List Call) → Alike s b (b .store .memory) ks
 
 -- of any sound board, which stays sound
 pub record SoundRun (s : Shape) (b : Board) (memory : List ℕ) (ks : List Call) : Type 0 where
@@ -50,3 +52,8 @@ pub record Demand2Place : Type 0 where
       → OnlyAt (placeOf ways s (nameOf (userGlobal (b .slots) process e))) (b .store) (userAccess s b process a e .after .store)
   pub supervisor-place : (s : Shape) (b : Board) (a : Access) (g : Global)
       → OnlyAt (placeOf ways s (nameOf g)) (b .store) (supervisorAccess s b a g .after .store)
+  -- prefix 0 never touches the cache
+  pub prefix-0-records : (s : Shape) (b : Board) (a : Access) (g : Global) → regionOf g ≡ Uncached
+      → supervisorAccess s b a g .after .store .records ≡ b .store .records
+  pub prefix-0-cache : (s : Shape) (b : Board) (a : Access) (g : Global) → regionOf g ≡ Uncached
+      → supervisorAccess s b a g .after .store .cache ≡ b .store .cache

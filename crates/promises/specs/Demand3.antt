@@ -5,13 +5,13 @@ use mathlib.Core.Bool.{Bool, true, false, not, _&&_, _||_, cond}
 use mathlib.Core.List.{List, [], _∷_}
 use lib.ListN.{getD}
 use lib.Dec.{eqb}
-use Rattle.address.specs.Layout.{processSlots, pageLines}
+use Rattle.address.specs.Layout.{segmentBytes, pageBytes, pageLines, processSlots}
 use Rattle.board.specs.Slots.{slotIndex, slotSegment, slotWrites, slotEmpty}
 use Rattle.board.specs.Pages.{mappedTo}
 use Rattle.board.specs.declared.Shape.{Shape}
 use Rattle.board.specs.declared.Found.{Found}
 use Rattle.board.specs.declared.Found.the-variants.{At}
-use Rattle.machine.specs.Boards.{Board, fresh}
+use Rattle.machine.specs.Boards.{Board, Fresh}
 use Rattle.machine.specs.Looks.{look}
 use Rattle.promises.specs.Runs.{Call, user, supervisor, Reply, reply, step, after, plainReply, plainStep, plainOf}
 use Rattle.promises.specs.Plain.{Plain}
@@ -84,26 +84,26 @@ plainRepliesTo process s p (supervisor c ∷ ks) = plainRepliesTo process s (pla
 
 -- the segment of a page
 abbrev pub segmentOfPage : ℕ → ℕ
-segmentOfPage page = page / 1024
+segmentOfPage page = page / (segmentBytes / pageBytes)
 
-pub record SameForProcess (s : Shape) (b c : Board) (ks ls : List Call) (process : ℕ) (memory : List ℕ) : Type 0 where
+-- what the two runs ks and ls from the board b have in common for our process
+pub record SameForProcess (s : Shape) (b : Board) (ks ls : List Call) (process : ℕ) : Type 0 where
   -- our process gets the same answers and values
-  pub same-replies : repliesTo process s b ks ≡ repliesTo process s c ls
-  -- and they are those of the plain machine
-  pub plain-replies : repliesTo process s b ks ≡ plainRepliesTo process s (plainOf b memory) ks
+  pub same-replies : repliesTo process s b ks ≡ repliesTo process s b ls
+  -- and they are those of the plain machine (the second run's are then the same)
+  pub plain-replies : repliesTo process s b ks ≡ plainRepliesTo process s (plainOf b (b .store .memory)) ks
   -- at the end the page map is the same, and the same bytes, read through the cache, stand in every mapped page of every segment
   -- that the process holds at any moment of the run
-  pub same-map : after s b ks .words ≡ after s c ls .words
+  pub same-map : after s b ks .words ≡ after s b ls .words
   pub same-bytes : (page frame line : ℕ) → everHolds s b ks process (segmentOfPage page) ≡ true
       → mappedTo s (after s b ks .words) page ≡ At frame → line / pageLines ≡ frame
-      → look s (after s b ks) line ≡ look s (after s c ls) line
+      → look s (after s b ks) line ≡ look s (after s b ls) line
 
 -- at no moment are two cached lines copies of one physical line
 abbrev pub OneCopy : Type 0
-OneCopy = (s : Shape) (cache memory : List ℕ) (ks : List Call) → LinesOnce s (after s (fresh s cache memory) ks .store)
+OneCopy = (s : Shape) (b : Board) → Fresh b → (ks : List Call) → LinesOnce s (after s b ks .store)
 
 pub record Demand3 : Type 0 where
-  pub apart : (s : Shape) (cache memory : List ℕ) (ks ls : List Call) (process : ℕ)
-      → SameFor process ks ls → Apart s (fresh s cache memory) ks process
-      → SameForProcess s (fresh s cache memory) (fresh s cache memory) ks ls process memory
+  pub apart : (s : Shape) (b : Board) → Fresh b → (ks ls : List Call) (process : ℕ)
+      → SameFor process ks ls → Apart s b ks process → SameForProcess s b ks ls process
   pub one-copy : OneCopy

@@ -1,41 +1,40 @@
 -- The plain machine: segment slots, a page map, a pending tag and flat memory, and no cache.
--- Slots, page map and tag are the board's own definitions. What an access does to memory, and what map,
--- unmap, protect, flush all and load-and-map leave, is written here from 01's text.
+-- Slot words, frame words, the tag, numbers in bytes and the tests of single rows are the board's own definitions.
+-- What an access asks and does, and what map, unmap, protect, flush all and load-and-map leave, is written here from 01's text.
 use Prim.Native.Nat.{ℕ, _+_, _*_, _%_}
 use mathlib.Core.Bool.{Bool, not, _&&_, cond}
-use mathlib.Core.List.{List, [], _∷_, _++_}
-use lib.ListN.{length, getD, set, replicate}
-use Rattle.address.specs.Layout.{pageBytes, processSlots}
-use Rattle.address.specs.Addresses.{pageOf, regionOf, physicalOf}
+use mathlib.Core.List.{List, [], _∷_}
+use lib.ListN.{length, getD, set}
+use Rattle.address.specs.Layout.{pageBytes}
+use Rattle.address.specs.Addresses.{slotOf, globalOf, pageOf, regionOf, physicalOf, isKernels, attachable}
 use Rattle.address.specs.declared.Effective.{Effective}
 use Rattle.address.specs.declared.Global.{Global}
 use Rattle.address.specs.declared.Region.{Region}
 use Rattle.address.specs.declared.Region.the-variants.{Uncached, Cached, PageTable, Ordinary}
-use Rattle.address.specs.Addresses.{attachable}
 use Rattle.board.specs.Shapes.{fitsShape}
-use Rattle.board.specs.Slots.{slotIndex, slotWord}
+use Rattle.board.specs.Slots.{slotIndex, slotWord, slotSegment, slotEmpty, slotWrites}
 use Rattle.board.specs.Pages.{frameWord, wordWrites, mappedTo}
 use Rattle.board.specs.declared.Shape.{Shape}
 use Rattle.board.specs.declared.Pending.{Pending}
 use Rattle.lines.specs.Bytes.{number, stored, lineOf, zeroedFrame}
 use Rattle.lines.specs.declared.Access.{Access}
 use Rattle.machine.specs.Boards.{noTag, tagged}
-use Rattle.machine.specs.Refusals.{Row, row, byTable, isProcess, isSlot, isPhysicalLine, isName, isGlobal, isOrdinary, isCached, isMapped, wordInUse, alignedTo, outside}
-use Rattle.machine.specs.Accesses.{userGlobal, userRows, frameUnder}
+use Rattle.machine.specs.Refusals.{Row, row, byTable, lowest, isProcess, isSlot, isPhysicalLine, isName, isGlobal, isOrdinary, isCached, isMapped, wordInUse, alignedTo, outside}
+use Rattle.machine.specs.Accesses.{frameUnder}
 use Rattle.machine.specs.Calls.{foundFrame, mapRows, pageRows, loadRows}
 
--- `records` and `cache` are only the lengths of the buffers that the board has besides: number 1 asks for them
+-- `recordsLength` and `cacheLength` are of the buffers that the board has besides: number 1 asks for them
 pub record Plain : Type 0 where
   pub slots : List ℕ
   pub words : List ℕ
   pub tag : Pending
   pub memory : List ℕ
-  pub records : ℕ
-  pub cache : ℕ
+  pub recordsLength : ℕ
+  pub cacheLength : ℕ
 
 -- number 1, of the same numbers and lengths as the board
 abbrev pub plainRow1 : Shape → Plain → Row
-plainRow1 s p = row 1 (not (fitsShape s (length (p .slots)) (length (p .words)) (p .records) (p .cache) (length (p .memory))))
+plainRow1 s p = row 1 (not (fitsShape s (length (p .slots)) (length (p .words)) (p .recordsLength) (p .cacheLength) (length (p .memory))))
 
 -- what a call gives: a number, a value and the machine after
 pub record Given : Type 0 where
@@ -54,16 +53,16 @@ plainDone p = given 0 0 p
 
 -- the machine with another memory, other slots, another tag, or other words and another memory
 abbrev pub withMemory : Plain → List ℕ → Plain
-withMemory p m = record { slots = p .slots; words = p .words; tag = p .tag; memory = m; records = p .records; cache = p .cache }
+withMemory p m = record { slots = p .slots; words = p .words; tag = p .tag; memory = m; recordsLength = p .recordsLength; cacheLength = p .cacheLength }
 
 abbrev pub plainSlots : Plain → List ℕ → Plain
-plainSlots p slots = record { slots = slots; words = p .words; tag = p .tag; memory = p .memory; records = p .records; cache = p .cache }
+plainSlots p slots = record { slots = slots; words = p .words; tag = p .tag; memory = p .memory; recordsLength = p .recordsLength; cacheLength = p .cacheLength }
 
 abbrev pub plainTag : Plain → Pending → Plain
-plainTag p t = record { slots = p .slots; words = p .words; tag = t; memory = p .memory; records = p .records; cache = p .cache }
+plainTag p t = record { slots = p .slots; words = p .words; tag = t; memory = p .memory; recordsLength = p .recordsLength; cacheLength = p .cacheLength }
 
 abbrev pub plainWords : Plain → List ℕ → List ℕ → Plain
-plainWords p words m = record { slots = p .slots; words = words; tag = p .tag; memory = m; records = p .records; cache = p .cache }
+plainWords p words m = record { slots = p .slots; words = words; tag = p .tag; memory = m; recordsLength = p .recordsLength; cacheLength = p .cacheLength }
 
 -- ---- accesses: a load or a store of flat memory
 
@@ -83,13 +82,31 @@ addressAt s p g = addressFrame s p g * pageBytes + g .0 % pageBytes
 abbrev pub addressMapped : Shape → Plain → Global → Bool
 addressMapped s p g = isMapped (mappedTo s (p .words) (pageOf g))
 
+-- the slot word that an effective address goes through, and the global address
+abbrev pub plainSlotWord : Plain → ℕ → Effective → ℕ
+plainSlotWord p process e = getD (p .slots) (slotIndex process (slotOf e)) 0
+
+abbrev pub plainGlobal : Plain → ℕ → Effective → Global
+plainGlobal p process e = globalOf (slotSegment (plainSlotWord p process e)) e
+
+-- may a user store there: by the page's frame word
+abbrev pub addressWrites : Shape → Plain → Global → Bool
+addressWrites s p g = wordWrites (getD (p .words) (addressFrame s p g) 0)
+
 unfoldable pub plainUser : Shape → Plain → ℕ → Access → Effective → Given
 plainUser s p process a e =
-    let g = userGlobal (p .slots) process e in
     byTable (plainRefused p)
-    (plainRow1 s p ∷ (userRows s (p .slots) (p .tag) process a e
-    ++ (row 8 (not (addressMapped s p g)) ∷ row 9 (a .store && not (wordWrites (getD (p .words) (addressFrame s p g) 0))) ∷ [])))
-    (plainAccess p (addressAt s p g) a)
+    (plainRow1 s p
+    ∷ row 2 (not (isProcess s process))
+    ∷ row 3 (p .tag .set)
+    ∷ row 4 (not (alignedTo (a .width) (e .0)))
+    ∷ row 5 (isKernels e)
+    ∷ row 6 (slotEmpty (plainSlotWord p process e))
+    ∷ row 7 (a .store && not (slotWrites (plainSlotWord p process e)))
+    ∷ row 8 (not (addressMapped s p (plainGlobal p process e)))
+    ∷ row 9 (a .store && not (addressWrites s p (plainGlobal p process e)))
+    ∷ [])
+    (plainAccess p (addressAt s p (plainGlobal p process e)) a)
 
 -- where a supervisor's address lies in memory (the page table region has been refused by row 12)
 unfoldable pub supervisorAt : Shape → Plain → Global → Region → ℕ
@@ -155,6 +172,12 @@ plainLoadAndMap s p line =
 unfoldable pub plainDropTag : Shape → Plain → Given
 plainDropTag s p = byTable (plainRefused p) (plainRow1 s p ∷ row 3 (not (p .tag .set)) ∷ []) (plainDone (plainTag p noTag))
 
--- look: the line's bytes in flat memory; refused by 1 or 2, an empty part
+-- look: the line's bytes in flat memory; refused by 1 or 2, an empty part; and its number
+abbrev pub plainLookTable : Shape → Plain → ℕ → List Row
+plainLookTable s p line = plainRow1 s p ∷ row 2 (not (isPhysicalLine s line)) ∷ []
+
 unfoldable pub plainLook : Shape → Plain → ℕ → List ℕ
-plainLook s p line = byTable (λ n. []) (plainRow1 s p ∷ row 2 (not (isPhysicalLine s line)) ∷ []) (lineOf (p .memory) line)
+plainLook s p line = byTable (λ n. []) (plainLookTable s p line) (lineOf (p .memory) line)
+
+unfoldable pub plainLookNumber : Shape → Plain → ℕ → ℕ
+plainLookNumber s p line = lowest (plainLookTable s p line)

@@ -103,6 +103,6 @@ plainOf b memory = record {
   words = b .words;
   tag = b .tag;
   memory = memory;
-  records = length (b .store .records);
-  cache = length (b .store .cache);
+  recordsLength = length (b .store .records);
+  cacheLength = length (b .store .cache);
 }

@@ -4,6 +4,7 @@ use mathlib.Core.Path.{_≡_}
 use mathlib.Core.Bool.{Bool, true, false}
 use mathlib.Core.List.{List}
 use lib.ListN.{length, getD}
+use Rattle.address.specs.Layout.{pageLines}
 use Rattle.address.specs.Addresses.{ordinaryPage}
 use Rattle.board.specs.Pages.{namesPage, homeOf}
 use Rattle.board.specs.declared.Shape.{Shape}
@@ -13,8 +14,7 @@ use Rattle.lines.specs.Bytes.{lineOf}
 use Rattle.lines.specs.Records.{lineAt}
 use Rattle.lines.specs.Stores.{Store, holdsAt}
 use Rattle.lines.specs.Reach.{current}
-use Rattle.machine.specs.Boards.{ways, Board, fitsBoard}
-use Rattle.promises.specs.Plain.{Plain}
+use Rattle.machine.specs.Boards.{ways, Board, fitsBoard, Fresh}
 
 -- the lengths agree and the limits hold
 abbrev pub ShapeHolds : Shape → Board → Type 0
@@ -52,7 +52,11 @@ pub record Sound (s : Shape) (b : Board) : Type 0 where
   pub lines-mapped : LinesMapped s (b .words) (b .store)
   pub clean-lines-equal : CleanLinesEqual s (b .store)
 
+-- a fresh board that fits is sound
+abbrev pub FreshSound : Type 0
+FreshSound = (s : Shape) (b : Board) → Fresh b → ShapeHolds s b → Sound s b
+
 -- a flat memory has the bytes that the board shows at every physical line
 pub record Shows (s : Shape) (b : Board) (memory : List ℕ) : Type 0 where
   pub same-length : length memory ≡ length (b .store .memory)
-  pub same-lines : (line : ℕ) → line < 256 * s .frames → current ways s (b .store) line ≡ lineOf memory line
+  pub same-lines : (line : ℕ) → line < pageLines * s .frames → current ways s (b .store) line ≡ lineOf memory line

@@ -1,61 +1,26 @@
 -- Visits of every record: what each record becomes, what stays, and that the store still stands for the flat memory.
-use Prim.Native.Nat.{ℕ, zero, suc, _+_, _*_, _%_, _≤_, _<_}
+-- Stands on the record laws of `lines` and, for lines written back and dropped, on Steps.
+use Prim.Native.Nat.{ℕ, zero, suc, _+_, _*_, _≤_, _<_}
 use mathlib.Core.Logic.{_≢_}
 use mathlib.Core.Path.{_≡_, refl, sym, ap, _∙_}
 use mathlib.Core.Bool.{Bool, true, false, _&&_, cond}
 use mathlib.Core.List.{List}
 use native.Mathlib.Omega.{arith}
-use lib.Dec.{eqb, ltb}
-use lib.ListN.{length, getD, List·getD-eq-default}
-use borrow.Author.Tests.{eqb-true, eqb-false, ltb-true, ltb-false}
+use lib.Dec.{eqb}
+use lib.ListN.{length}
+use borrow.Author.Tests.{eqb-true, eqb-false}
 use Rattle.board.specs.declared.Shape.{Shape}
 use Rattle.board.specs.declared.Home.{Home}
 use Rattle.board.specs.declared.Home.the-variants.{Line as HomeLine}
-use Rattle.board.proofs.Bools.{and-left}
-use Rattle.lines.specs.Bytes.{lineOf}
 use Rattle.lines.specs.Records.{lineAt, putLine, noLine, permittedLine}
-use Rattle.lines.specs.Stores.{Store, store, holdsLine, holdsAt, writtenBack, noted, dropped}
+use Rattle.lines.specs.Stores.{Store, holdsLine, holdsAt, writtenBack, noted, dropped}
 use Rattle.lines.specs.Visits.{selects, treated, visited, sweep, visitedAll}
 use Rattle.lines.specs.declared.Line.{Line}
 use Rattle.lines.specs.declared.Visit.{Visit}
 use Rattle.lines.specs.declared.Visit.the-variants.{Map, Unmap, Protect, Flush}
 use Rattle.lines.proofs.Records.{length-put, line-put-same, line-put-other}
-use Rattle.lines.proofs.Bytes.{length-line}
 use Rattle.promises.proofs.Sim.{byte, Sim}
-
--- ---- held lines
-
-pub clash : {A : Type 0} (t : Bool) → t ≡ true → t ≡ false → A
-clash t a b = let z : _≡_ {A = ℕ} 0 1 = cc in absurd (omega arith)
-
-module _ (ways : ℕ) (s : Shape) (j : ℕ) where
-  pub holds-none : holdsLine ways s j noLine ≡ false
-  unfolding holdsLine
-  holds-none = refl
-
-  -- a record holds a line by what it says
-  pub held-line : (r : List ℕ) (l : Line) → lineAt r j ≡ l → holdsAt ways s r j ≡ holdsLine ways s j l
-  unfolding holdsAt
-  held-line r l e = rw e
-
-  pub held-same : (r q : List ℕ) → lineAt r j ≡ lineAt q j → holdsAt ways s r j ≡ holdsAt ways s q j
-  unfolding holdsAt
-  held-same r q e = rw e
-
-  pub held-permitted : (l : Line) (write : Bool) → holdsLine ways s j (permittedLine l write) ≡ holdsLine ways s j l
-  unfolding holdsLine
-  held-permitted l write = refl
-
-  -- a held line is one of the list
-  pub held-below : (r : List ℕ) → holdsAt ways s r j ≡ true → 2 * j + 1 < length r
-  unfolding holdsAt holdsLine lineAt
-  held-below r h = go (ltb (2 * j + 1) (length r)) refl
-    where
-      go : (t : Bool) → ltb (2 * j + 1) (length r) ≡ t → 2 * j + 1 < length r
-      go true t = ltb-true _ _ t
-      go false t =
-          let a : getD r (2 * j + 1) 0 ≡ 0 = List·getD-eq-default r 0 (ltb-false _ _ t) in
-          clash (eqb (getD r (2 * j + 1) 0 % 2) 1) (and-left (eqb (getD r (2 * j + 1) 0 % 2) 1) _ h) (rw a)
+use Rattle.promises.proofs.Steps.{written-cache, length-written, evict-records, sim-evict}
 
 -- ---- what a visit makes of a record
 
@@ -77,21 +42,15 @@ record Step (i : ℕ) (l : Line) (x y : Store) : Type 0 where
   memory-length : length (y .memory) ≡ length (x .memory)
 
 -- y has x's cache bytes, and as many records and as much memory
-pub record Alike (x y : Store) : Type 0 where
+pub record SameCache (x y : Store) : Type 0 where
   pub records-length : length (y .records) ≡ length (x .records)
   pub cache-same : y .cache ≡ x .cache
   pub memory-length : length (y .memory) ≡ length (x .memory)
 
-retired : (i : ℕ) (t : Bool) (x : Store) (memory : List ℕ) → length memory ≡ length (x .memory)
-    → Step i noLine x (dropped i (cond t (store (x .records) (x .cache) memory) x))
-unfolding dropped noted
-retired i true x memory h = record { records-are = refl; cache-same = refl; memory-length = h }
-retired i false x memory h = record { records-are = refl; cache-same = refl; memory-length = refl }
-
 module _ (ways : ℕ) (s : Shape) where
   written-retired : (i : ℕ) (x : Store) → Step i noLine x (dropped i (writtenBack ways s i x))
-  unfolding writtenBack
-  written-retired i x = retired i (holdsAt ways s (x .records) i && lineAt (x .records) i .changed) x _ (length-line (x .memory) (lineAt (x .records) i .physical) (lineOf (x .cache) i))
+  unfolding dropped noted
+  written-retired i x = record { records-are = evict-records ways s i x; cache-same = written-cache ways s i x; memory-length = length-written ways s i x }
 
   treated-step : (v : Visit) (i : ℕ) (x : Store) → Step i (fateOf v (lineAt (x .records) i)) x (treated ways s v i x)
   unfolding treated dropped noted fateOf
@@ -117,11 +76,11 @@ module _ (ways : ℕ) (s : Shape) where
         go true = rw (treated-step v i x .records-are) (line-put-other (x .records) i (fateOf v (lineAt (x .records) i)) j n)
         go false = refl
 
-    visited-alike : (i : ℕ) (x : Store) → Alike x (visited ways s v i x)
+    visited-cache : (i : ℕ) (x : Store) → SameCache x (visited ways s v i x)
     unfolding visited
-    visited-alike i x = go (holdsAt ways s (x .records) i && selects v (lineAt (x .records) i))
+    visited-cache i x = go (holdsAt ways s (x .records) i && selects v (lineAt (x .records) i))
       where
-        go : (t : Bool) → Alike x (cond t (treated ways s v i x) x)
+        go : (t : Bool) → SameCache x (cond t (treated ways s v i x) x)
         go true =
             let r = treated-step v i x in
             record {
@@ -134,7 +93,7 @@ module _ (ways : ℕ) (s : Shape) where
 -- ---- what all the visits make of the records
 
 -- what every visit keeps, a sweep keeps
-pub sweep-keeps : (f : ℕ → Store → Store) (P : Store → Type 0) → ((i : ℕ) (x : Store) → P x → P (f i x)) → (n i : ℕ) (x : Store) → P x → P (sweep f n i x)
+sweep-keeps : (f : ℕ → Store → Store) (P : Store → Type 0) → ((i : ℕ) (x : Store) → P x → P (f i x)) → (n i : ℕ) (x : Store) → P x → P (sweep f n i x)
 unfolding sweep
 sweep-keeps f P h zero i x p = p
 sweep-keeps f P h (suc n) i x p = sweep-keeps f P h n (suc i) (f i x) (h i x p)
@@ -160,15 +119,15 @@ module _ (ways : ℕ) (s : Shape) (v : Visit) where
           sweep-below n (suc i) j (visited ways s v i x) (omega arith) ∙ rw (← q) (visited-here ways s v i x (omega arith))
       go false t later =
           let q = eqb-false i j t in
-          later (omega arith) (omega arith) (omega (arith, visited-alike ways s v i x .records-length))
+          later (omega arith) (omega arith) (omega (arith, visited-cache ways s v i x .records-length))
           ∙ rw (visited-other ways s v i j x q)
 
   module _ (x : Store) where
-    pub swept-alike : Alike x (visitedAll ways s v x)
+    pub swept-cache : SameCache x (visitedAll ways s v x)
     unfolding visitedAll
-    swept-alike =
-        sweep-keeps (visited ways s v) (λ (y : Store). Alike x y)
-        (λ i y a. let b = visited-alike ways s v i y in
+    swept-cache =
+        sweep-keeps (visited ways s v) (λ (y : Store). SameCache x y)
+        (λ i y a. let b = visited-cache ways s v i y in
         record {
           records-length = b .records-length ∙ a .records-length;
           cache-same = b .cache-same ∙ a .cache-same;
@@ -212,7 +171,7 @@ pub record Kept (ways : ℕ) (s : Shape) (home′ : ℕ → Home) (x y : Store) 
   pub maps : home′ (lineAt (y .records) j .name) ≡ HomeLine (lineAt (y .records) j .physical) (lineAt (y .records) j .write)
 
 module _ (ways : ℕ) (s : Shape) (home home′ : ℕ → Home) (x y : Store) (m m′ : List ℕ) (sim : Sim ways s home x m)
-    (alike : Alike x y) (flat-length : length m′ ≡ length m)
+    (alike : SameCache x y) (flat-length : length m′ ≡ length m)
     (kept : (j : ℕ) → holdsAt ways s (y .records) j ≡ true → Kept ways s home′ x y j)
     (in-memory : (j k : ℕ) → holdsAt ways s (y .records) j ≡ true → k < 16
     → byte (y .memory) (lineAt (y .records) j .physical) k ≡ byte (x .memory) (lineAt (y .records) j .physical) k)
@@ -249,10 +208,9 @@ module _ (ways : ℕ) (s : Shape) (home home′ : ℕ → Home) (x y : Store) (m
 
 -- ---- lines written back and dropped
 
--- if a held line may be written back and dropped, then all that a visit is for may be
-module _ (ways : ℕ) (s : Shape) (home : ℕ → Home) (m : List ℕ)
-    (evict-kept : (x : Store) (i : ℕ) → Sim ways s home x m → holdsAt ways s (x .records) i ≡ true → Sim ways s home (dropped i (writtenBack ways s i x)) m) where
-  pub sim-swept : (v : Visit) → ((i : ℕ) (x : Store) → treated ways s v i x ≡ dropped i (writtenBack ways s i x)) → (x : Store)
+-- a visit that writes back and drops, to every record it is for
+module _ (ways : ℕ) (s : Shape) (home : ℕ → Home) (m : List ℕ) where
+  sim-swept : (v : Visit) → ((i : ℕ) (x : Store) → treated ways s v i x ≡ dropped i (writtenBack ways s i x)) → (x : Store)
       → Sim ways s home x m → Sim ways s home (visitedAll ways s v x) m
   unfolding visitedAll visited
   sim-swept v retires x sim =
@@ -261,7 +219,7 @@ module _ (ways : ℕ) (s : Shape) (home : ℕ → Home) (m : List ℕ)
       (s .lines) 0 x sim
     where
       one : (i : ℕ) (y : Store) → Sim ways s home y m → (t u : Bool) → holdsAt ways s (y .records) i ≡ t → Sim ways s home (cond (t && u) (treated ways s v i y) y) m
-      one i y a true true h = rw (retires i y) (evict-kept y i a h)
+      one i y a true true h = rw (retires i y) (sim-evict a i h)
       one i y a true false h = a
       one i y a false u h = a
 

@@ -1,13 +1,11 @@
 -- An access by the cache gives what the flat memory gives; so do load-and-map and look. One line in a set, the map of the frame words.
-use Prim.Native.Nat.{ℕ, suc, zero, _+_, _*_, _/_, _%_, _≤_, _<_}
-use mathlib.Core.Logic.{_≢_}
+-- Stands on Held and Steps.
+use Prim.Native.Nat.{ℕ, _+_, _*_, _/_, _%_, _≤_, _<_}
 use mathlib.Core.Path.{_≡_, refl, sym}
-use mathlib.Core.Bool.{Bool, true, false, _&&_, cond}
+use mathlib.Core.Bool.{Bool, true, false, cond}
 use mathlib.Core.List.{List}
 use native.Mathlib.Nat.{mod-lt, div-one, add-assoc}
 use native.Mathlib.Omega.{arith}
-use lib.Dec.{eqb}
-use borrow.Author.Tests.{eqb-true, eq-eqb}
 use Rattle.address.specs.Addresses.{nameOf}
 use Rattle.address.specs.declared.Global.{Global}
 use Rattle.board.specs.Pages.{homeOf}
@@ -16,65 +14,45 @@ use Rattle.board.specs.declared.Found.{Found}
 use Rattle.board.specs.declared.Found.the-variants.{At, Nothing}
 use Rattle.board.specs.declared.Home.{Home}
 use Rattle.board.specs.declared.Home.the-variants.{Line as HomeLine, Nowhere}
-use Rattle.board.proofs.Bools.{and-left, and-right}
 use Rattle.lines.specs.Bytes.{number as numberIn, digits, stored, lineOf}
 use Rattle.lines.specs.Records.{lineAt}
 use Rattle.lines.specs.Stores.{Store, store, placeOf, holdsAt, holderOf, performedAt}
-use Rattle.lines.specs.Reach.{wayByHome, wayBy, wayOf, unreached, mayWrite, keepsLine, keeperFrom, keeperOf, currentBy, current}
+use Rattle.lines.specs.Reach.{wayByHome, wayBy, wayOf, unreached, mayWrite, keeperOf, currentBy, current}
 use Rattle.lines.specs.declared.Access.{Access}
 use Rattle.lines.specs.declared.Way.{Way}
 use Rattle.machine.specs.Accesses.{Reached, performedOn, accessedBy, wayTo, accessed}
 use Rattle.machine.specs.Calls.{loadedBy, loaded}
 use Rattle.promises.proofs.Sim.{Homes, Sim}
 use Rattle.promises.proofs.Bytes.{number-same, length-digits, line-ext}
-use Rattle.promises.proofs.Steps.{clash, held-below, sim-stored, turn-at, turn-nothing, here-or-later, holder-some, sim-inserted, inserted-line, inserted-held}
+use Rattle.promises.proofs.Held.{held-below, holder-some, keeper-some, keeper-nothing}
+use Rattle.promises.proofs.Steps.{sim-stored, sim-inserted, inserted-line, inserted-held}
 
 -- ---- look
 
--- the search for a physical line
-module _ (ways : ℕ) (s : Shape) (r : List ℕ) (p : ℕ) where
-  pub keeper-some : (i n j : ℕ) → keeperFrom ways s r p i n ≡ At j → (holdsAt ways s r j ≡ true) × (lineAt r j .physical ≡ p)
-  unfolding keeperFrom keepsLine
-  keeper-some i zero j h = let z : _≡_ {A = ℕ} 0 1 = cc in absurd (omega arith)
-  keeper-some i (suc n) j h =
-      turn-at (holdsAt ways s r i && eqb (lineAt r i .physical) p) i j (keeperFrom ways s r p (suc i) n)
-      (λ k. (holdsAt ways s r k ≡ true) × (lineAt r k .physical ≡ p))
-      (λ t. (and-left (holdsAt ways s r i) _ t, eqb-true _ _ (and-right (holdsAt ways s r i) _ t)))
-      (keeper-some (suc i) n j) h
-
-  pub keeper-none : (i n j : ℕ) → keeperFrom ways s r p i n ≡ Nothing → i ≤ j → j < i + n → holdsAt ways s r j ≡ true → lineAt r j .physical ≢ p
-  unfolding keeperFrom keepsLine
-  keeper-none i zero j h a b = absurd (omega arith)
-  keeper-none i (suc n) j h a b =
-      let z = turn-nothing (holdsAt ways s r i && eqb (lineAt r i .physical) p) i (keeperFrom ways s r p (suc i) n) h in
-      here-or-later (λ k. holdsAt ways s r k ≡ true → lineAt r k .physical ≢ p) i j a
-      (λ d e. let y = eq-eqb _ _ e in clash (holdsAt ways s r i && eqb (lineAt r i .physical) p) (rw (d, y) refl) (z .0))
-      (λ c. keeper-none (suc i) n j (z .1) c (omega arith))
-
 -- the current bytes of a physical line are the flat memory's
 module _ {ways : ℕ} {s : Shape} {home : ℕ → Home} {x : Store} {m : List ℕ} (sim : Sim ways s home x m) (p : ℕ) (b : p < 256 * s .frames) where
-  look-by : (f : Found) → keeperFrom ways s (x .records) p 0 (s .lines) ≡ f → currentBy (x .cache) (x .memory) p f ≡ lineOf m p
+  look-by : (f : Found) → keeperOf ways s (x .records) p ≡ f → currentBy (x .cache) (x .memory) p f ≡ lineOf m p
   unfolding currentBy
   look-by (At i) h =
-      let a = keeper-some ways s (x .records) p 0 (s .lines) i h in
+      let a = keeper-some ways s (x .records) p i h in
       let d = held-below sim i (a .0) in
       line-ext (x .cache) m i p (omega (arith, sim .cache-count)) (omega (arith, sim .flat-count)) (λ k g. sym (rw (a .1) at (sim .cached i k (a .0) g)))
   look-by Nothing h =
       line-ext (x .memory) m p p (omega (arith, sim .memory-count)) (omega (arith, sim .flat-count))
       (λ k g. sym (sim .bare p k
-      (λ j o. keeper-none ways s (x .records) p 0 (s .lines) j h (omega arith) (let d = held-below sim j o in omega arith) o) b g))
+      (λ j o. keeper-nothing ways s (x .records) p j h (held-below sim j o) o) b g))
 
   pub look-same : current ways s x p ≡ lineOf m p
-  unfolding current keeperOf
-  look-same = look-by (keeperFrom ways s (x .records) p 0 (s .lines)) refl
+  unfolding current
+  look-same = look-by (keeperOf ways s (x .records) p) refl
 
 -- ---- a load or a store on a held line
 
 -- what is reached is what the flat memory has at `at`
-pub record Same (s : Shape) (home : ℕ → Home) (a : Access) (m : List ℕ) (at : ℕ) (r : Reached) : Type 0 where
-  pub number : r .answer .number ≡ 0
-  pub value : r .answer .value ≡ cond (a .store) 0 (numberIn m at (a .width))
-  pub sim : Sim 1 s home (r .after) (cond (a .store) (stored m at (a .width) (a .value)) m)
+record Same (s : Shape) (home : ℕ → Home) (a : Access) (m : List ℕ) (at : ℕ) (r : Reached) : Type 0 where
+  number : r .answer .number ≡ 0
+  value : r .answer .value ≡ cond (a .store) 0 (numberIn m at (a .width))
+  sim : Sim 1 s home (r .after) (cond (a .store) (stored m at (a .width) (a .value)) m)
 
 module _ {s : Shape} {home : ℕ → Home} {x : Store} {m : List ℕ} (sim : Sim 1 s home x m) (mark i off : ℕ) (a : Access)
     (h : holdsAt 1 s (x .records) i ≡ true) (fit : off + a .width ≤ 16) where
@@ -92,16 +70,16 @@ module _ {s : Shape} {home : ℕ → Home} {x : Store} {m : List ℕ} (sim : Sim
   performed-sim true e = let d = length-digits (a .width) (a .value) in rw e (sim-stored sim i off (digits (a .width) (a .value)) h (omega arith))
   performed-sim false e = rw e sim
 
-  pub performed-same : Same s home a m (16 * lineAt (x .records) i .physical + off) (performedOn i off a mark x)
+  performed-same : Same s home a m (16 * lineAt (x .records) i .physical + off) (performedOn i off a mark x)
   unfolding performedOn
   performed-same = record { number = refl; value = performed-value (a .store) refl; sim = performed-sim (a .store) refl }
 
 -- ---- the way to a line, an access to it, and load-and-map
 
 -- a way does what the home of its name says
-pub record WayHome (way : Way) (home : Home) : Type 0 where
-  pub reaches : unreached way ≡ unreached (wayByHome home)
-  pub writes : mayWrite way ≡ mayWrite (wayByHome home)
+record WayHome (way : Way) (home : Home) : Type 0 where
+  reaches : unreached way ≡ unreached (wayByHome home)
+  writes : mayWrite way ≡ mayWrite (wayByHome home)
 
 -- an access to g, whose home is physical line p, is an access to the flat memory m
 pub record Accessed (s : Shape) (words : List ℕ) (g : Global) (a : Access) (x : Store) (m : List ℕ) (p : ℕ) : Type 0 where
@@ -111,7 +89,7 @@ pub record Accessed (s : Shape) (words : List ℕ) (g : Global) (a : Access) (x 
 
 module _ (s : Shape) (words : List ℕ) {x : Store} {m : List ℕ} (sim : Sim 1 s (homeOf s words) x m) where
   -- the home of a held name is its record's physical line, with its permission
-  pub held-home : (name i : ℕ) → holderOf 1 s (x .records) name ≡ At i
+  held-home : (name i : ℕ) → holderOf 1 s (x .records) name ≡ At i
       → homeOf s words name ≡ HomeLine (lineAt (x .records) i .physical) (lineAt (x .records) i .write)
   held-home name i h = let a = holder-some 1 s (x .records) name i h in rw (a .1) at (sim .maps i (a .0))
 
@@ -120,7 +98,7 @@ module _ (s : Shape) (words : List ℕ) {x : Store} {m : List ℕ} (sim : Sim 1 
   way-home-by name (At i) h = let e = held-home name i h in record { reaches = rw e refl; writes = rw e refl }
   way-home-by name Nothing h = record { reaches = refl; writes = refl }
 
-  pub way-home : (g : Global) → WayHome (wayTo s words (x .records) g) (homeOf s words (nameOf g))
+  way-home : (g : Global) → WayHome (wayTo s words (x .records) g) (homeOf s words (nameOf g))
   unfolding wayOf
   way-home g = way-home-by (nameOf g) (holderOf 1 s (x .records) (nameOf g)) refl
 

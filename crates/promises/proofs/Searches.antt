@@ -1,0 +1,68 @@
+-- The lowest number of a range that passes a test. The searches for the record of a name, for the record of a physical line
+-- and for the frame of a page are all this one, so their laws are these.
+use Prim.Native.Nat.{ℕ, zero, suc, _+_, _≤_, _<_}
+use mathlib.Core.Logic.{_≢_}
+use mathlib.Core.Path.{_≡_, refl}
+use mathlib.Core.Bool.{Bool, true, false, cond}
+use native.Mathlib.Omega.{arith}
+use lib.Dec.{eqb}
+use borrow.Author.Tests.{eqb-true, eqb-false}
+use Rattle.board.specs.declared.Found.{Found}
+use Rattle.board.specs.declared.Found.the-variants.{At, Nothing}
+
+-- the lowest of the n numbers from i on that passes
+unfoldable pub first : (ℕ → Bool) → ℕ → ℕ → Found
+first test i zero = Nothing
+first test i (suc n) = cond (test i) (At i) (first test (suc i) n)
+
+pub record First (test : ℕ → Bool) (i n j : ℕ) : Type 0 where
+  pub from : i ≤ j
+  pub to : j < i + n
+  pub passes : test j ≡ true
+
+module _ (test : ℕ → Bool) where
+  -- what is found is in the range and passes
+  pub first-at : (i n j : ℕ) → first test i n ≡ At j → First test i n j
+  unfolding first
+  first-at i zero j h = absurd (let z : _≡_ {A = ℕ} 0 1 = cc in omega arith)
+  first-at i (suc n) j h = go (test i) refl h (first-at (suc i) n j)
+    where
+      go : (t : Bool) → test i ≡ t → cond t (At i) (first test (suc i) n) ≡ At j → (first test (suc i) n ≡ At j → First test (suc i) n j)
+          → First test i (suc n) j
+      go true t h later =
+          let a : i ≡ j = cc in
+          rw (← a) record { from = omega arith; to = omega arith; passes = t }
+      go false t h later =
+          let r = later h in
+          record { from = omega arith; to = omega arith; passes = r .passes }
+
+  -- where nothing is found, nothing in the range passes
+  pub first-nothing : (i n j : ℕ) → first test i n ≡ Nothing → i ≤ j → j < i + n → test j ≡ false
+  unfolding first
+  first-nothing i zero j h a b = absurd (omega arith)
+  first-nothing i (suc n) j h a b = go (test i) (eqb j i) refl refl h (first-nothing (suc i) n j)
+    where
+      go : (t u : Bool) → test i ≡ t → eqb j i ≡ u → cond t (At i) (first test (suc i) n) ≡ Nothing
+          → (first test (suc i) n ≡ Nothing → suc i ≤ j → j < suc i + n → test j ≡ false) → test j ≡ false
+      go true u t v h later = absurd (let z : _≡_ {A = ℕ} 0 1 = cc in omega arith)
+      go false true t v h later = let q : j ≡ i = eqb-true j i v in rw q t
+      go false false t v h later = let q = eqb-false j i v in later h (omega arith) (omega arith)
+
+module _ (test other : ℕ → Bool) where
+  -- tests that agree find the same
+  pub first-same : ((k : ℕ) → other k ≡ test k) → (i n : ℕ) → first other i n ≡ first test i n
+  unfolding first
+  first-same e i zero = refl
+  first-same e i (suc n) = rw (e i, first-same e (suc i) n)
+
+  -- what was found is still found, where it still passes and the others are tested as before
+  pub first-hit : (f : ℕ) → other f ≡ true → ((k : ℕ) → k ≢ f → other k ≡ test k) → (i n : ℕ) → first test i n ≡ At f → first other i n ≡ At f
+  unfolding first
+  first-hit f y e i zero h = h
+  first-hit f y e i (suc n) h = go (eqb i f) (test i) refl refl h (first-hit f y e (suc i) n)
+    where
+      go : (t u : Bool) → eqb i f ≡ t → test i ≡ u → cond u (At i) (first test (suc i) n) ≡ At f
+          → (first test (suc i) n ≡ At f → first other (suc i) n ≡ At f) → cond (other i) (At i) (first other (suc i) n) ≡ At f
+      go true u t v h later = let q : i ≡ f = eqb-true i f t in rw (q, y)
+      go false true t v h later = let z : i ≡ f = cc in absurd (eqb-false i f t z)
+      go false false t v h later = rw (e i (eqb-false i f t), v) (later h)
