@@ -11,10 +11,13 @@ ghost use Rattle.machine.specs.Refusals.{alignedTo};
 ghost use Rattle.machine.specs.Accesses.{reached, performedOn, memoryAccess, userAccess, supervisorAccess};
 ghost use Rattle.access.specs.Checks.{lineAccess, slotCheck, userCheck, regionPlan, waits, supervisorPlan};
 use address::Effective;
+use address::GLOBAL_END;
 use address::Global;
+use address::LINE_BYTES;
 use address::Physical;
 use address::Region;
 use board::Answer;
+use board::PROCESS_SLOTS;
 use board::Pending;
 use board::Shape;
 use board::numbered;
@@ -33,12 +36,6 @@ pub enum Plan {
     Line(Global),
     Memory(Physical),
 }
-
-const GLOBAL_END: u64 = 17592186044416;
-
-const PROCESS_SLOTS: usize = 512;
-
-const LINE_BYTES: u64 = 16;
 
 // The width is 1, 2 or 4, and the address a multiple of it.
 fn aligned(width: u32, at: u64) -> bool

@@ -19,11 +19,12 @@ pub enum Region {
     Ordinary,
 }
 
+// The sizes of 01's address layout.
 const SEGMENT_BYTES: u32 = 4194304;
 
-const PAGE_BYTES: u64 = 4096;
+pub const PAGE_BYTES: u64 = 4096;
 
-const LINE_BYTES: u64 = 16;
+pub const LINE_BYTES: u64 = 16;
 
 const PREFIX_BYTES: u64 = 4294967296;
 
@@ -40,6 +41,14 @@ const LAST_SEGMENT: u64 = 4190207;
 const FIRST_PAGE: u64 = 2097152;
 
 const LAST_PAGE: u64 = 4290772991;
+
+// A global address is below this.
+pub const GLOBAL_END: u64 = 17592186044416;
+
+// The line names in a page, and under one prefix.
+pub const PAGE_NAMES: u64 = 256;
+
+pub const PREFIX_NAMES: u64 = 268435456;
 
 impl Effective {
     // The slot that the address goes through.

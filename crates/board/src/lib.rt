@@ -1,6 +1,8 @@
 ghost use mathlib.Core.Path.{_≡_};
 ghost use mathlib.Core.Bool.{true, false, not};
 ghost use Prim.Native.Nat.{ℕ, _+_, _*_, _/_, _≤_, _<_, _^_};
+use address::PAGE_NAMES;
+use address::PREFIX_NAMES;
 use address::ordinary_page;
 ghost use lib.ListN.{length, set, getD};
 ghost use Rattle.board.specs.Answers.{answer};
@@ -59,17 +61,16 @@ const MAX_PROCESSES: usize = 16;
 
 const MAX_LINES: usize = 32768;
 
-const PROCESS_SLOTS: usize = 512;
+pub const PROCESS_SLOTS: usize = 512;
 
-const RECORD_WORDS: usize = 2;
+pub const RECORD_WORDS: usize = 2;
 
-const LINE_BYTES: usize = 16;
+// A line's and a frame's bytes, and a frame's lines, as places in a buffer.
+pub const LINE_BYTES: usize = 16;
 
-const PAGE_BYTES: usize = 4096;
+pub const PAGE_BYTES: usize = 4096;
 
-const PAGE_LINES: u64 = 256;
-
-const PREFIX_LINES: u64 = 268435456;
+pub const PAGE_LINES: usize = 256;
 
 // A bit as a number.
 pub fn bit_of(b: bool) -> u64
@@ -286,9 +287,9 @@ fn direct_home(s: Shape, words: &[u64], name: u64) -> Home
     requires { ⌜ length (now words) ≡ s .frames ⌝ }
     ensures { λ r. ⌜ r ≡ directHome s (now (words .entry)) name ⌝ }
 {
-    if name / PREFIX_LINES == 1 {
-        let line = (name % PREFIX_LINES) as usize;
-        if free_frame(s, words, line / 256) {
+    if name / PREFIX_NAMES == 1 {
+        let line = (name % PREFIX_NAMES) as usize;
+        if free_frame(s, words, line / PAGE_LINES) {
             return Home::Line(line, true);
         }
     }
@@ -300,10 +301,13 @@ pub fn home_of(s: Shape, words: &[u64], name: u64) -> Home
     requires { ⌜ (length (now words) ≡ s .frames) × (s .frames ≤ maxFrames) ⌝ }
     ensures { λ r. ⌜ r ≡ homeOf s (now (words .entry)) name ⌝ }
 {
-    match mapped_to(s, words, name / PAGE_LINES) {
+    match mapped_to(s, words, name / PAGE_NAMES) {
         Found::At(f) => {
             let w = words[f];
-            Home::Line(f * 256 + (name % PAGE_LINES) as usize, word_writes(w))
+            Home::Line(
+                f * PAGE_LINES + (name % PAGE_NAMES) as usize,
+                word_writes(w),
+            )
         }
         Found::Nothing => direct_home(s, words, name),
     }

@@ -15,8 +15,12 @@ ghost use Rattle.machine.specs.Refusals.{isProcess, isSlot, isFrame};
 ghost use Rattle.machine.specs.Calls.{mapped, unmapped, protected, loaded, attach as attachCall, detach as detachCall, mapPage as mapCall, unmap as unmapCall, protect as protectCall, flushAll as flushCall, tag as tagCall, loadAndMap as loadAndMapCall, dropTag as dropTagCall};
 ghost use Rattle.machine.specs.Looks.{lookNumber as lookNumberOf, look as lookOf};
 ghost use Rattle.calls.specs.Checks.{mapNumber, pageFrame, loadFrame, loadCheck};
+use address::PAGE_NAMES;
 use board::Answer;
 use board::Found;
+use board::LINE_BYTES;
+use board::PAGE_LINES;
+use board::PROCESS_SLOTS;
 use board::Pending;
 use board::Shape;
 use board::numbered;
@@ -39,12 +43,6 @@ pub enum Load {
     Refuse(u32),
     Fill(bool),
 }
-
-const PROCESS_SLOTS: usize = 512;
-
-const PAGE_LINES: usize = 256;
-
-const LINE_BYTES: usize = 16;
 
 // A process, a slot and a segment in their ranges.
 fn attach_fits(s: Shape, process: usize, slot: usize, segment: u64) -> bool
@@ -385,7 +383,7 @@ pub fn tag(
         cache.len(),
         memory.len(),
     ) {
-        if address::ordinary_page(name / 256) {
+        if address::ordinary_page(name / PAGE_NAMES) {
             if pending.set {
                 return kept(3, pending);
             }
@@ -437,10 +435,10 @@ fn load_frame(s: Shape, words: &[u64], name: u64, line: usize) -> Load
     requires { ⌜ (length (now words) ≡ s .frames) × (s .frames ≤ maxFrames) ⌝ }
     ensures { λ r. ⌜ r ≡ loadFrame s (now (words .entry)) name line ⌝ }
 {
-    match board::mapped_to(s, words, name / 256) {
+    match board::mapped_to(s, words, name / PAGE_NAMES) {
         Found::Nothing => Load::Refuse(8),
         Found::At(f) => {
-            if line != f * PAGE_LINES + (name % 256) as usize {
+            if line != f * PAGE_LINES + (name % PAGE_NAMES) as usize {
                 return Load::Refuse(13);
             }
             let w = words[f];

@@ -12,8 +12,13 @@ ghost use Rattle.lines.specs.Records.{lineAt, putLine, noLine, changedLi
 ghost use Rattle.lines.specs.Stores.{store as storeOf, holdsLine, holderOf, writtenBack, inserted, performed, performedAt};
 ghost use Rattle.lines.specs.Reach.{wayOf, keepsLine, keeperOf};
 ghost use Rattle.lines.specs.Visits.{selects, treated, visited, visitedAll};
+use address::PAGE_NAMES;
 use board::Found;
 use board::Home;
+use board::LINE_BYTES;
+use board::PAGE_BYTES;
+use board::PAGE_LINES;
+use board::RECORD_WORDS;
 use board::Shape;
 
 // A line's record.
@@ -48,14 +53,7 @@ pub enum Visit {
     Flush,
 }
 
-const LINE_BYTES: usize = 16;
-
-const PAGE_BYTES: usize = 4096;
-
-const RECORD_WORDS: usize = 2;
-
-const PAGE_LINES: u64 = 256;
-
+// The first page under prefix 1.
 const DIRECT_PAGES: u64 = 1048576;
 
 fn wide(x: u8) -> u32
@@ -119,7 +117,7 @@ fn copy_sixteen(dst: &mut [u8], src: &[u8])
 }
 
 // Copies line `j` of `src` over line `i` of `dst`, by a local so that it is one move of sixteen bytes.
-fn copy_line(dst: &mut [u8], i: usize, src: &[u8], j: usize)
+pub fn copy_line(dst: &mut [u8], i: usize, src: &[u8], j: usize)
     requires { ⌜ (16 * i + 16 ≤ length (now dst)) × (16 * j + 16 ≤ length (now src)) ⌝ }
     ensures { λ _. ⌜ now (dst .exit) ≡ withLine (now (dst .entry)) i (lineOf (now (src .entry)) j) ⌝ }
 {
@@ -176,7 +174,7 @@ pub fn holds(s: Shape, i: usize, l: Line) -> bool
     let lines = s.lines;
     let name = l.name;
     let place = place_of(lines, name);
-    let end = 256 * s.frames;
+    let end = PAGE_LINES * s.frames;
     l.valid & ((i == place) & (l.physical < end as u64))
 }
 
@@ -320,7 +318,7 @@ fn is_direct(page: u64, frame: usize) -> bool
 fn selected(v: Visit, l: Line) -> bool
     ensures { λ r. ⌜ r ≡ selects v l ⌝ }
 {
-    let p = l.name / PAGE_LINES;
+    let p = l.name / PAGE_NAMES;
     match v {
         Visit::Map(page, frame) => (p == page) | is_direct(p, frame),
         Visit::Unmap(page) => p == page,
