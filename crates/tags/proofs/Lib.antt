@@ -1,0 +1,2 @@
+-- The parts that the walks of this crate share.
+pub mod Shared
