@@ -142,8 +142,8 @@ module _ (s : Shape) (words : List ℕ) (name : ℕ) where
     home-direct home k d = d ∙ ap (homeBy s words name) (sym k) ∙ home-by
 
 -- a line under a test is that line, and the test passed
-if-line : (t : Bool) (m line : ℕ) (write : Bool) → cond t (Line m true) Nowhere ≡ Line line write → (t ≡ true) × (m ≡ line)
-if-line true m line write e = (refl, cc)
+pub if-line : (t : Bool) (m line : ℕ) (write : Bool) → cond t (Line m true) Nowhere ≡ Line line write → (t ≡ true) × ((m ≡ line) × (write ≡ true))
+if-line true m line write e = (refl, (cc, cc))
 if-line false m line write e = absurd (let z : _≡_ {A = ℕ} 0 1 = cc in omega arith)
 
 module _ (s : Shape) (words : List ℕ) (name line : ℕ) (write : Bool) where
@@ -154,7 +154,7 @@ module _ (s : Shape) (words : List ℕ) (name line : ℕ) (write : Bool) where
       let a = and-right (eqb (name / prefixLines) 1) (freeFrame s words (directFrame name)) (z .0) in
       let b = and-right (leb (s .uncached) (directFrame name)) _ a in
       let d = ltb-true (directFrame name) (s .frames) (and-left (ltb (directFrame name) (s .frames)) _ b) in
-      omega (arith, d, z .1)
+      omega (arith, d, z .1 .0)
 
   by-inside : (found : Found) → ((f : ℕ) → found ≡ At f → f < s .frames) → homeBy s words name found ≡ Line line write → line < 256 * s .frames
   unfolding homeBy

@@ -18,7 +18,7 @@ use Rattle.board.specs.declared.Found.{Found}
 use Rattle.board.specs.declared.Found.the-variants.{At, Nothing}
 use Rattle.board.specs.declared.Home.the-variants.{Line, Nowhere}
 use Rattle.board.proofs.Bools.{clash, and-left, and-right}
-use Rattle.board.proofs.Frames.{mapped-ordinary, home-at, home-direct, direct-other, home-inside}
+use Rattle.board.proofs.Frames.{mapped-ordinary, home-at, home-direct, direct-other, home-inside, if-line}
 use Rattle.machine.specs.Refusals.{isMapped}
 use Rattle.machine.specs.Calls.{foundFrame}
 use Rattle.promises.proofs.Sim.{Homes}
@@ -165,11 +165,6 @@ pub data Homed (s : Shape) (words : List ℕ) (n p : ℕ) (w : Bool) : Type 0 wh
   direct : n ≡ 2 ^ 28 + p → p < 2 ^ 28 → s .uncached ≤ p / 256 → p / 256 < s .frames → getD words (p / 256) 0 ≡ 0 → w ≡ true → Homed s words n p w
   mapped : ordinaryPage (n / 256) ≡ true → p % 256 ≡ n % 256 → s .uncached ≤ p / 256 → p / 256 < length words
       → getD words (p / 256) 0 / 4 ≡ n / 256 → getD words (p / 256) 0 % 2 ≡ 1 → w ≡ wordWrites (getD words (p / 256) 0) → Homed s words n p w
-
--- a line under a test is that line, and the test passed
-if-line : (t : Bool) (m p : ℕ) (w : Bool) → cond t (Line m true) Nowhere ≡ Line p w → (t ≡ true) × ((m ≡ p) × (w ≡ true))
-if-line true m p w e = (refl, (cc, cc))
-if-line false m p w e = let z : _≡_ {A = ℕ} 0 1 = cc in absurd (omega arith)
 
 module _ (s : Shape) (words : List ℕ) (n p : ℕ) (w : Bool) where
   homed-direct : directHome s words n ≡ Line p w → Homed s words n p w
