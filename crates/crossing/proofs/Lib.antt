@@ -1,0 +1,3 @@
+-- The laws of this crate that proofs cite.
+pub mod Packs
+pub mod Fitting

@@ -1,0 +1,68 @@
+-- The packing: nothing is lost, and a call's outcome crosses as it is.
+use Prim.Native.Nat.{ℕ, _+_, _*_, _/_, _%_, _<_, _^_}
+use mathlib.Core.Path.{_≡_, refl, _∙_, sym, ap}
+use mathlib.Core.Bool.{Bool, true, false, not, cond}
+use mathlib.Core.List.{List}
+use lib.Dec.{eqb}
+use native.Mathlib.Omega.{arith}
+use borrow.Author.Tests.{ne-eqb}
+use Rattle.board.specs.declared.Answer.{Answer}
+use Rattle.board.specs.declared.Pending.{Pending}
+use Rattle.machine.specs.Boards.{Board, board, Outcome, outcome}
+use Rattle.crossing.specs.Packing.{packed, unpacked, Small, NothingLost, isYes, wordAfter, tagOf}
+
+pub packs : (a : Answer) → Small a → a .value < 2 ^ 32
+    → unpacked (a .number * 8589934592 + a .mark * 4294967296 + a .value) ≡ a
+unfolding unpacked
+packs a z v =
+    let r = a .number * 8589934592 + a .mark * 4294967296 + a .value in
+    let n : r / 8589934592 ≡ a .number = omega (arith, z .mark-below) in
+    let m : r / 4294967296 % 2 ≡ a .mark = omega (arith, z .mark-below) in
+    let w : r % 4294967296 ≡ a .value = omega arith in
+    rw (n, m, w)
+
+packs-back : (r : ℕ) → packed (unpacked r) ≡ r
+unfolding packed unpacked
+packs-back r = omega arith
+
+packs-all : (a : Answer) → Small a → a .value < 2 ^ 32 → unpacked (packed a) ≡ a
+unfolding packed
+packs-all a z v = packs a z v
+
+pub nothing-lost : NothingLost
+nothing-lost = record { answers = packs-all; numbers = packs-back }
+
+-- the outcome, with its answer read off the number
+pub crosses : (a : Answer) (b : Board) (o : Outcome) (r : ℕ) → outcome a b ≡ o → unpacked r ≡ a → outcome (unpacked r) b ≡ o
+crosses a b o r e f = rw f e
+
+-- the same where the tag crosses as two numbers
+pub crosses-tagged : (a : Answer) (slots w r c m : List ℕ) (tag : Pending) (o : Outcome) (n set name : ℕ) → outcome a (board slots w r c m tag) ≡ o
+    → unpacked n ≡ a → not (eqb set 0) ≡ tag .set → name ≡ tag .name → outcome (unpacked n) (board slots w r c m (tagOf set name)) ≡ o
+crosses-tagged a slots w r c m tag o n set name e f g h = rw (f, g, h) e
+
+-- the returns of word_after
+pub word-given : (before : ℕ) (set : Bool) → set ≡ true → (before ≡ 0 → ⊥) → before ≡ wordAfter before set
+unfolding wordAfter
+word-given before set e n = rw (e, ne-eqb _ _ n)
+
+pub word-new : (before : ℕ) (set : Bool) → set ≡ true → before ≡ 0 → 1 ≡ wordAfter before set
+unfolding wordAfter
+word-new before set e n = rw (e, n)
+
+pub word-none : (before : ℕ) (set : Bool) → set ≡ false → 0 ≡ wordAfter before set
+unfolding wordAfter
+word-none before set e = rw e
+
+-- the word says the flag
+word-yes : (t u : Bool) (before : ℕ) → isYes before ≡ u → isYes (cond t (cond u before 1) 0) ≡ t
+word-yes true true before e = e
+word-yes true false before e = refl
+word-yes false u before e = refl
+
+pub word-says : (before after : ℕ) (set : Bool) → after ≡ wordAfter before set → isYes after ≡ set
+unfolding wordAfter
+word-says before after set e = rw e (word-yes set (isYes before) before refl)
+
+pub word-kept : (before after : ℕ) (set : Bool) → after ≡ wordAfter before set → after ≡ wordAfter before (isYes after)
+word-kept before after set e = e ∙ ap (wordAfter before) (sym (word-says before after set e))

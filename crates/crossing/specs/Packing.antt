@@ -1,0 +1,44 @@
+-- How an answer crosses to C and Rust: as one number of 64 bits, number × 2^33 + mark × 2^32 + value.
+-- A contract reads the answer off that number, so it says `outcome (unpacked r) ..` where the call's own says `outcome r ..`.
+use Prim.Native.Nat.{ℕ, _+_, _*_, _/_, _%_, _<_, _^_}
+use mathlib.Core.Path.{_≡_}
+use mathlib.Core.Bool.{Bool, not, cond}
+use lib.Dec.{eqb}
+use Rattle.board.specs.declared.Answer.{Answer}
+use Rattle.board.specs.declared.Pending.{Pending}
+use Rattle.board.specs.declared.Shape.{Shape}
+use Rattle.lines.specs.declared.Access.{Access}
+
+unfoldable pub packed : Answer → ℕ
+packed a = a .number * 2 ^ 33 + a .mark * 2 ^ 32 + a .value
+
+unfoldable pub unpacked : ℕ → Answer
+unpacked r = record { number = r / 2 ^ 33; value = r % 2 ^ 32; mark = r / 2 ^ 32 % 2 }
+
+-- an answer that fits: the number below 16, the mark 0 or 1
+pub record Small (a : Answer) : Type 0 where
+  pub number-below : a .number < 16
+  pub mark-below : a .mark < 2
+
+-- nothing is lost: unpacking gives back what was packed, and what was unpacked packs to the same number
+pub record NothingLost : Type 0 where
+  pub answers : (a : Answer) → Small a → a .value < 2 ^ 32 → unpacked (packed a) ≡ a
+  pub numbers : (r : ℕ) → packed (unpacked r) ≡ r
+
+-- a flag as a number: any but 0 says yes
+abbrev pub isYes : ℕ → Bool
+isYes n = not (eqb n 0)
+
+-- the word of a flag after a call: the caller's own while it says the same, else 1 or 0
+unfoldable pub wordAfter : ℕ → Bool → ℕ
+wordAfter before set = cond set (cond (isYes before) before 1) 0
+
+-- a pending tag, a shape and an access by their numbers
+abbrev pub tagOf : ℕ → ℕ → Pending
+tagOf set name = record { set = isYes set; name = name }
+
+abbrev pub shape : ℕ → ℕ → ℕ → ℕ → Shape
+shape frames uncached processes lines = record { frames = frames; uncached = uncached; processes = processes; lines = lines }
+
+abbrev pub access : ℕ → ℕ → ℕ → Access
+access store width value = record { store = isYes store; width = width; value = value }

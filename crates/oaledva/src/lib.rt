@@ -1,0 +1,426 @@
+// The calls for C and Rust, all but user access: numbers and slices go in, and the answer comes back as one number. A flag is
+// a number, and any but 0 says yes. No call asks anything of the numbers or of the buffers' lengths.
+ghost use mathlib.Core.Path.{_≡_};
+ghost use Prim.Native.Nat.{_*_, _<_};
+ghost use Rattle.address.specs.Addresses.{global};
+ghost use Rattle.board.specs.declared.Pending.{Pending};
+ghost use Rattle.lines.specs.Premises.{Sized};
+ghost use Rattle.lines.specs.Reach.{keeperOf};
+ghost use Rattle.machine.specs.Boards.{board as boardOf, outcome};
+ghost use Rattle.machine.specs.Accesses.{supervisorAccess};
+ghost use Rattle.machine.specs.Calls.{attach as attachCall, detach as detachCall, mapPage as mapCall, unmap as unmapCall, protect as protectCall, flushAll as flushCall, tag as tagCall, loadAndMap as loadAndMapCall, dropTag as dropTagCall};
+ghost use Rattle.machine.specs.Looks.{lookNumber as lookNumberOf};
+ghost use Rattle.crossing.specs.Packing.{unpacked, isYes, wordAfter, tagOf, shape, access};
+ghost use Rattle.oaledva.specs.Lends.{placeBy, lookPlace};
+use address::Global;
+use board::Found;
+use board::LINE_BYTES;
+use board::Pending;
+use board::Shape;
+use lines::Access;
+
+// What look adds for a place in memory, and what it gives where it is refused.
+const IN_MEMORY: u64 = 9223372036854775808;
+
+const NOWHERE: u64 = 18446744073709551615;
+
+// Where a line's current bytes stand: in the cache bytes, or in memory.
+fn place_of_line(s: Shape, records: &[u64], cache: &[u8], memory: &[u8], line: usize) -> u64
+    requires { ⌜ Sized s (now records) (now cache) (now memory) × (line < 256 * s .frames) ⌝ }
+    ensures { λ r. ⌜ r ≡ placeBy line (keeperOf 1 s (now (records .entry)) line) ⌝ }
+{
+    match lines::keeper_of(s, records, line) {
+        Found::At(i) => (LINE_BYTES * i) as u64,
+        Found::Nothing => IN_MEMORY + (LINE_BYTES * line) as u64,
+    }
+}
+
+// A supervisor's load or store by global address.
+#[no_mangle]
+pub extern "C" fn oaledva_supervisor_access(
+    frames: usize,
+    uncached: usize,
+    processes: usize,
+    lines: usize,
+    slots: &[u32],
+    words: &[u64],
+    records: &mut [u64],
+    cache: &mut [u8],
+    memory: &mut [u8],
+    set: u32,
+    name: u64,
+    store: u32,
+    width: u32,
+    address: u64,
+    value: u32,
+) -> u64
+    ensures { λ r. ⌜ outcome (unpacked r) (boardOf (now (slots .entry)) (now (words .entry)) (now (records .exit)) (now (cache .exit)) (now (memory .exit)) (tagOf set name)) ≡ supervisorAccess (shape frames uncached processes lines) (boardOf (now (slots .entry)) (now (words .entry)) (now (records .entry)) (now (cache .entry)) (now (memory .entry)) (tagOf set name)) (access store width value) (global address) ⌝ }
+{
+    let s = Shape {
+        frames: frames,
+        uncached: uncached,
+        processes: processes,
+        lines: lines,
+    };
+    let tag = Pending {
+        set: set != 0,
+        name: name,
+    };
+    let a = Access {
+        store: store != 0,
+        width: width,
+        value: value,
+    };
+    let x = access::supervisor_access(
+        s,
+        slots,
+        words,
+        records,
+        cache,
+        memory,
+        tag,
+        a,
+        Global(address),
+    );
+    crossing::packed_answer(x)
+}
+
+// Attaches a segment to a slot of a process.
+#[no_mangle]
+pub extern "C" fn oaledva_attach(
+    frames: usize,
+    uncached: usize,
+    processes: usize,
+    lines: usize,
+    slots: &mut [u32],
+    words: &[u64],
+    records: &[u64],
+    cache: &[u8],
+    memory: &[u8],
+    process: usize,
+    slot: usize,
+    segment: u64,
+    write: u32,
+) -> u64
+    ensures { λ r. ⌜ ((tag : Pending) → outcome (unpacked r) (boardOf (now (slots .exit)) (now (words .entry)) (now (records .entry)) (now (cache .entry)) (now (memory .entry)) tag) ≡ attachCall (shape frames uncached processes lines) (boardOf (now (slots .entry)) (now (words .entry)) (now (records .entry)) (now (cache .entry)) (now (memory .entry)) tag) process slot segment (isYes write)) ⌝ }
+{
+    let s = Shape {
+        frames: frames,
+        uncached: uncached,
+        processes: processes,
+        lines: lines,
+    };
+    let x = calls::attach(
+        s,
+        slots,
+        words,
+        records,
+        cache,
+        memory,
+        process,
+        slot,
+        segment,
+        write != 0,
+    );
+    crossing::packed_answer(x)
+}
+
+// Empties a slot of a process.
+#[no_mangle]
+pub extern "C" fn oaledva_detach(
+    frames: usize,
+    uncached: usize,
+    processes: usize,
+    lines: usize,
+    slots: &mut [u32],
+    words: &[u64],
+    records: &[u64],
+    cache: &[u8],
+    memory: &[u8],
+    process: usize,
+    slot: usize,
+) -> u64
+    ensures { λ r. ⌜ ((tag : Pending) → outcome (unpacked r) (boardOf (now (slots .exit)) (now (words .entry)) (now (records .entry)) (now (cache .entry)) (now (memory .entry)) tag) ≡ detachCall (shape frames uncached processes lines) (boardOf (now (slots .entry)) (now (words .entry)) (now (records .entry)) (now (cache .entry)) (now (memory .entry)) tag) process slot) ⌝ }
+{
+    let s = Shape {
+        frames: frames,
+        uncached: uncached,
+        processes: processes,
+        lines: lines,
+    };
+    let x = calls::detach(s, slots, words, records, cache, memory, process, slot);
+    crossing::packed_answer(x)
+}
+
+// Maps a page to a frame.
+#[no_mangle]
+pub extern "C" fn oaledva_map(
+    frames: usize,
+    uncached: usize,
+    processes: usize,
+    lines: usize,
+    slots: &[u32],
+    words: &mut [u64],
+    records: &mut [u64],
+    cache: &[u8],
+    memory: &mut [u8],
+    page: u64,
+    frame: usize,
+    write: u32,
+) -> u64
+    ensures { λ r. ⌜ ((tag : Pending) → outcome (unpacked r) (boardOf (now (slots .entry)) (now (words .exit)) (now (records .exit)) (now (cache .entry)) (now (memory .exit)) tag) ≡ mapCall (shape frames uncached processes lines) (boardOf (now (slots .entry)) (now (words .entry)) (now (records .entry)) (now (cache .entry)) (now (memory .entry)) tag) page frame (isYes write)) ⌝ }
+{
+    let s = Shape {
+        frames: frames,
+        uncached: uncached,
+        processes: processes,
+        lines: lines,
+    };
+    let x = calls::map(
+        s,
+        slots,
+        words,
+        records,
+        cache,
+        memory,
+        page,
+        frame,
+        write != 0,
+    );
+    crossing::packed_answer(x)
+}
+
+// Unmaps a page.
+#[no_mangle]
+pub extern "C" fn oaledva_unmap(
+    frames: usize,
+    uncached: usize,
+    processes: usize,
+    lines: usize,
+    slots: &[u32],
+    words: &mut [u64],
+    records: &mut [u64],
+    cache: &[u8],
+    memory: &mut [u8],
+    page: u64,
+) -> u64
+    ensures { λ r. ⌜ ((tag : Pending) → outcome (unpacked r) (boardOf (now (slots .entry)) (now (words .exit)) (now (records .exit)) (now (cache .entry)) (now (memory .exit)) tag) ≡ unmapCall (shape frames uncached processes lines) (boardOf (now (slots .entry)) (now (words .entry)) (now (records .entry)) (now (cache .entry)) (now (memory .entry)) tag) page) ⌝ }
+{
+    let s = Shape {
+        frames: frames,
+        uncached: uncached,
+        processes: processes,
+        lines: lines,
+    };
+    let x = calls::unmap(s, slots, words, records, cache, memory, page);
+    crossing::packed_answer(x)
+}
+
+// Changes a page's write bit.
+#[no_mangle]
+pub extern "C" fn oaledva_protect(
+    frames: usize,
+    uncached: usize,
+    processes: usize,
+    lines: usize,
+    slots: &[u32],
+    words: &mut [u64],
+    records: &mut [u64],
+    cache: &[u8],
+    memory: &mut [u8],
+    page: u64,
+    write: u32,
+) -> u64
+    ensures { λ r. ⌜ ((tag : Pending) → outcome (unpacked r) (boardOf (now (slots .entry)) (now (words .exit)) (now (records .exit)) (now (cache .entry)) (now (memory .exit)) tag) ≡ protectCall (shape frames uncached processes lines) (boardOf (now (slots .entry)) (now (words .entry)) (now (records .entry)) (now (cache .entry)) (now (memory .entry)) tag) page (isYes write)) ⌝ }
+{
+    let s = Shape {
+        frames: frames,
+        uncached: uncached,
+        processes: processes,
+        lines: lines,
+    };
+    let x = calls::protect(s, slots, words, records, cache, memory, page, write != 0);
+    crossing::packed_answer(x)
+}
+
+// Writes back every changed line and drops all.
+#[no_mangle]
+pub extern "C" fn oaledva_flush_all(
+    frames: usize,
+    uncached: usize,
+    processes: usize,
+    lines: usize,
+    slots: &[u32],
+    words: &[u64],
+    records: &mut [u64],
+    cache: &[u8],
+    memory: &mut [u8],
+) -> u64
+    ensures { λ r. ⌜ ((tag : Pending) → outcome (unpacked r) (boardOf (now (slots .entry)) (now (words .entry)) (now (records .exit)) (now (cache .entry)) (now (memory .exit)) tag) ≡ flushCall (shape frames uncached processes lines) (boardOf (now (slots .entry)) (now (words .entry)) (now (records .entry)) (now (cache .entry)) (now (memory .entry)) tag)) ⌝ }
+{
+    let s = Shape {
+        frames: frames,
+        uncached: uncached,
+        processes: processes,
+        lines: lines,
+    };
+    let x = calls::flush_all(s, slots, words, records, cache, memory);
+    crossing::packed_answer(x)
+}
+
+// Remembers a line name.
+#[no_mangle]
+pub extern "C" fn oaledva_tag(
+    frames: usize,
+    uncached: usize,
+    processes: usize,
+    lines: usize,
+    slots: &[u32],
+    words: &[u64],
+    records: &[u64],
+    cache: &[u8],
+    memory: &[u8],
+    set: &mut u32,
+    name: &mut u64,
+    line: u64,
+) -> u64
+    ensures { λ r. ⌜ outcome (unpacked r) (boardOf (now (slots .entry)) (now (words .entry)) (now (records .entry)) (now (cache .entry)) (now (memory .entry)) (tagOf (now (set .exit)) (now (name .exit)))) ≡ tagCall (shape frames uncached processes lines) (boardOf (now (slots .entry)) (now (words .entry)) (now (records .entry)) (now (cache .entry)) (now (memory .entry)) (tagOf (now (set .entry)) (now (name .entry)))) line ⌝ }
+    ensures { λ r. ⌜ now (set .exit) ≡ wordAfter (now (set .entry)) (isYes (now (set .exit))) ⌝ }
+{
+    let s = Shape {
+        frames: frames,
+        uncached: uncached,
+        processes: processes,
+        lines: lines,
+    };
+    let tag = Pending {
+        set: *set != 0,
+        name: *name,
+    };
+    let x = calls::tag(s, slots, words, records, cache, memory, tag, line);
+    *set = crossing::word_after(*set, x.tag.set);
+    *name = x.tag.name;
+    crossing::packed_answer(x.answer)
+}
+
+// Loads the line of the pending name, and forgets the name.
+#[no_mangle]
+pub extern "C" fn oaledva_load_and_map(
+    frames: usize,
+    uncached: usize,
+    processes: usize,
+    lines: usize,
+    slots: &[u32],
+    words: &[u64],
+    records: &mut [u64],
+    cache: &mut [u8],
+    memory: &mut [u8],
+    set: &mut u32,
+    name: &mut u64,
+    line: usize,
+) -> u64
+    ensures { λ r. ⌜ outcome (unpacked r) (boardOf (now (slots .entry)) (now (words .entry)) (now (records .exit)) (now (cache .exit)) (now (memory .exit)) (tagOf (now (set .exit)) (now (name .exit)))) ≡ loadAndMapCall (shape frames uncached processes lines) (boardOf (now (slots .entry)) (now (words .entry)) (now (records .entry)) (now (cache .entry)) (now (memory .entry)) (tagOf (now (set .entry)) (now (name .entry)))) line ⌝ }
+    ensures { λ r. ⌜ now (set .exit) ≡ wordAfter (now (set .entry)) (isYes (now (set .exit))) ⌝ }
+{
+    let s = Shape {
+        frames: frames,
+        uncached: uncached,
+        processes: processes,
+        lines: lines,
+    };
+    let tag = Pending {
+        set: *set != 0,
+        name: *name,
+    };
+    let x = calls::load_and_map(s, slots, words, records, cache, memory, tag, line);
+    *set = crossing::word_after(*set, x.tag.set);
+    *name = x.tag.name;
+    crossing::packed_answer(x.answer)
+}
+
+// Forgets the pending name.
+#[no_mangle]
+pub extern "C" fn oaledva_drop_tag(
+    frames: usize,
+    uncached: usize,
+    processes: usize,
+    lines: usize,
+    slots: &[u32],
+    words: &[u64],
+    records: &[u64],
+    cache: &[u8],
+    memory: &[u8],
+    set: &mut u32,
+    name: &mut u64,
+) -> u64
+    ensures { λ r. ⌜ outcome (unpacked r) (boardOf (now (slots .entry)) (now (words .entry)) (now (records .entry)) (now (cache .entry)) (now (memory .entry)) (tagOf (now (set .exit)) (now (name .exit)))) ≡ dropTagCall (shape frames uncached processes lines) (boardOf (now (slots .entry)) (now (words .entry)) (now (records .entry)) (now (cache .entry)) (now (memory .entry)) (tagOf (now (set .entry)) (now (name .entry)))) ⌝ }
+    ensures { λ r. ⌜ now (set .exit) ≡ wordAfter (now (set .entry)) (isYes (now (set .exit))) ⌝ }
+{
+    let s = Shape {
+        frames: frames,
+        uncached: uncached,
+        processes: processes,
+        lines: lines,
+    };
+    let tag = Pending {
+        set: *set != 0,
+        name: *name,
+    };
+    let x = calls::drop_tag(s, slots, words, records, cache, memory, tag);
+    *set = crossing::word_after(*set, x.tag.set);
+    *name = x.tag.name;
+    crossing::packed_answer(x.answer)
+}
+
+// The number that look gives.
+#[no_mangle]
+pub extern "C" fn oaledva_look_number(
+    frames: usize,
+    uncached: usize,
+    processes: usize,
+    lines: usize,
+    slots: &[u32],
+    words: &[u64],
+    records: &[u64],
+    cache: &[u8],
+    memory: &[u8],
+    line: usize,
+) -> u32
+    ensures { λ r. ⌜ ((tag : Pending) → r ≡ lookNumberOf (shape frames uncached processes lines) (boardOf (now (slots .entry)) (now (words .entry)) (now (records .entry)) (now (cache .entry)) (now (memory .entry)) tag) line) ⌝ }
+{
+    let s = Shape {
+        frames: frames,
+        uncached: uncached,
+        processes: processes,
+        lines: lines,
+    };
+    calls::look_number(s, slots, words, records, cache, memory, line)
+}
+
+// Where the current sixteen bytes of a physical line stand in the caller's own buffers.
+#[no_mangle]
+pub extern "C" fn oaledva_look(
+    frames: usize,
+    uncached: usize,
+    processes: usize,
+    lines: usize,
+    slots: &[u32],
+    words: &[u64],
+    records: &[u64],
+    cache: &[u8],
+    memory: &[u8],
+    line: usize,
+) -> u64
+    ensures { λ r. ⌜ ((tag : Pending) → r ≡ lookPlace (shape frames uncached processes lines) (boardOf (now (slots .entry)) (now (words .entry)) (now (records .entry)) (now (cache .entry)) (now (memory .entry)) tag) line) ⌝ }
+{
+    let s = Shape {
+        frames: frames,
+        uncached: uncached,
+        processes: processes,
+        lines: lines,
+    };
+    if calls::look_number(s, slots, words, records, cache, memory, line) == 0 {
+        return place_of_line(s, records, cache, memory, line);
+    }
+    NOWHERE
+}

@@ -1,0 +1,14 @@
+-- `user_access`, packed.
+use Rattle.crossing.proofs.Packs.{crosses}
+use Rattle.crossing.proofs.Fitting.{user-small}
+use borrow.Author.Needs.{needs}
+use Rattle.oaledva_user.proofs.oaledva_user_access.Statement.{statement}
+use Rattle.oaledva_user.proofs.oaledva_user_access.Tie as tie
+
+pub oaledva-user-access-spec : {M : Type 1} → statement M
+oaledva-user-access-spec =
+    tie.close (tie.spec
+    (search needs)
+    (λ c κs. search (needs, user-small))
+    (search needs) (search needs) (search needs)
+    (λ c. search (needs, crosses)))

@@ -1,0 +1,62 @@
+// User access for C and Rust, alone in its archive: with a second function over the same code the compiler would not inline it.
+ghost use mathlib.Core.Path.{_≡_};
+ghost use Rattle.address.specs.Addresses.{effective};
+ghost use Rattle.machine.specs.Boards.{board as boardOf, outcome};
+ghost use Rattle.machine.specs.Accesses.{userAccess};
+ghost use Rattle.crossing.specs.Packing.{unpacked, tagOf, shape, access};
+use address::Effective;
+use board::Pending;
+use board::Shape;
+use lines::Access;
+
+// A user's load or store.
+#[no_mangle]
+pub extern "C" fn oaledva_user_access(
+    frames: usize,
+    uncached: usize,
+    processes: usize,
+    lines: usize,
+    slots: &[u32],
+    words: &[u64],
+    records: &mut [u64],
+    cache: &mut [u8],
+    memory: &mut [u8],
+    set: u32,
+    name: u64,
+    process: usize,
+    store: u32,
+    width: u32,
+    address: u32,
+    value: u32,
+) -> u64
+    ensures { λ r. ⌜ outcome (unpacked r) (boardOf (now (slots .entry)) (now (words .entry)) (now (records .exit)) (now (cache .exit)) (now (memory .exit)) (tagOf set name)) ≡ userAccess (shape frames uncached processes lines) (boardOf (now (slots .entry)) (now (words .entry)) (now (records .entry)) (now (cache .entry)) (now (memory .entry)) (tagOf set name)) process (access store width value) (effective address) ⌝ }
+{
+    let s = Shape {
+        frames: frames,
+        uncached: uncached,
+        processes: processes,
+        lines: lines,
+    };
+    let tag = Pending {
+        set: set != 0,
+        name: name,
+    };
+    let a = Access {
+        store: store != 0,
+        width: width,
+        value: value,
+    };
+    let x = access::user_access(
+        s,
+        slots,
+        words,
+        records,
+        cache,
+        memory,
+        tag,
+        process,
+        a,
+        Effective(address),
+    );
+    crossing::packed_answer(x)
+}
