@@ -1,0 +1,10 @@
+// Finds the two archives: in OALEDVA_LIB if it is set, else where `make library` writes them.
+fn main() {
+    println!("cargo:rerun-if-env-changed=OALEDVA_LIB");
+    let folder = std::env::var("OALEDVA_LIB")
+        .unwrap_or_else(|_| concat!(env!("CARGO_MANIFEST_DIR"), "/../target/staticlib").into());
+    for archive in ["liboaledva.a", "liboaledva_user.a"] {
+        println!("cargo:rerun-if-changed={folder}/{archive}");
+    }
+    println!("cargo:rustc-link-search=native={folder}");
+}

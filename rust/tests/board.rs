@@ -1,0 +1,104 @@
+// The safe crate beside the hostile test: limits, words, look's parts, the load in two parts, both kinds of buffers.
+use oaledva::{Board, Lent, Refusal, Shape};
+
+const SHAPE: Shape = Shape { frames: 4, uncached: 1, processes: 2, lines: 2 };
+const PAGE: u64 = 0x200000;
+
+fn mapped() -> Board {
+    let mut board = Board::new(SHAPE).unwrap();
+    board.map(PAGE, 1, true).unwrap();
+    board.attach(0, 0, 2048, true).unwrap();
+    board
+}
+
+#[test]
+fn the_limits_are_the_library_s() {
+    for frames in [0, 1, 4] {
+        for uncached in [0, frames, frames + 1] {
+            for processes in [0, 1, 16, 17] {
+                for lines in [0, 1, 2, 3, 32_768, 65_536] {
+                    let shape = Shape { frames, uncached, processes, lines };
+                    let (mut slots, mut words) = (vec![0; shape.slots()], vec![0; shape.words()]);
+                    let (mut records, mut cache) = (vec![0; shape.records()], vec![0; shape.cache()]);
+                    let mut memory = vec![0; shape.memory()];
+                    let lent = Lent::over(shape, &mut slots, &mut words, &mut records, &mut cache, &mut memory, None);
+                    assert_eq!(shape.keeps_limits(), lent.look_number(0) == 0, "{shape:?}");
+                    assert_eq!(Board::new(shape).is_ok(), shape.keeps_limits(), "{shape:?}");
+                }
+            }
+        }
+    }
+    for frames in [Shape::FRAMES_MAX + 1, usize::MAX] {
+        assert_eq!(Board::new(Shape { frames, ..SHAPE }), Err(Refusal::Shape));
+    }
+}
+
+#[test]
+fn refusals_have_numbers_and_words() {
+    for number in 1..=13 {
+        let refusal = Refusal::of(number).unwrap();
+        assert_eq!(refusal.number(), number);
+        assert_eq!(refusal.to_string(), format!("{} (number {number})", refusal.reason()));
+    }
+    assert_eq!(Refusal::of(0), None);
+    assert_eq!(
+        mapped().load(1, 1, 3).unwrap_err().to_string(),
+        "no segment is attached to the address's slot (number 6)"
+    );
+}
+
+#[test]
+fn look_gives_a_part_of_the_board_itself() {
+    let mut board = mapped();
+    board.store(0, 4, 16, 0x01020304).unwrap();
+    let line = 256 + 1;
+    let held = board.look(line).unwrap();
+    assert_eq!(held[..4], [1, 2, 3, 4]);
+    assert_eq!(held.as_ptr(), board.cache()[16..].as_ptr());
+    board.flush_all().unwrap();
+    let flushed = board.look(line).unwrap();
+    assert_eq!(flushed[..4], [1, 2, 3, 4]);
+    assert_eq!(flushed.as_ptr(), board.memory()[16 * line..].as_ptr());
+    assert_eq!(board.look(4 * 256), Err(Refusal::Range));
+}
+
+#[test]
+fn a_load_in_two_parts() {
+    let mut board = mapped();
+    let name = PAGE * 256;
+    assert_eq!(board.load_and_map(256), Err(Refusal::Tag));
+    board.tag(name).unwrap();
+    assert_eq!((board.pending(), board.load(0, 1, 0)), (Some(name), Err(Refusal::Tag)));
+    assert_eq!(board.load_and_map(257), Err(Refusal::OtherLine));
+    board.load_and_map(256).unwrap();
+    assert_eq!((board.pending(), board.load(0, 1, 0), board.hit()), (None, Ok(0), true));
+    board.tag(name).unwrap();
+    board.drop_tag().unwrap();
+    assert_eq!(board.pending(), None);
+}
+
+#[test]
+fn an_owned_and_a_lent_board_are_one_machine() {
+    let mut own = mapped();
+    let (mut slots, mut words) = (own.slots().to_vec(), own.words().to_vec());
+    let (mut records, mut cache, mut memory) = (own.records().to_vec(), own.cache().to_vec(), own.memory().to_vec());
+    let mut lent = Lent::over(SHAPE, &mut slots, &mut words, &mut records, &mut cache, &mut memory, None);
+    for (at, value) in [(0, 50), (32, 7), (0, 9)] {
+        assert_eq!(own.store(0, 4, at, value), lent.store(0, 4, at, value));
+        assert_eq!((own.load(0, 2, at + 2), own.hit()), (lent.load(0, 2, at + 2), lent.hit()));
+    }
+    assert_eq!((own.records(), own.cache(), own.memory()), (&records[..], &cache[..], &memory[..]));
+}
+
+#[test]
+fn a_supervisor_reaches_what_users_cannot() {
+    let mut board = mapped();
+    board.protect(PAGE, false).unwrap();
+    assert_eq!(board.store(0, 1, 0, 1), Err(Refusal::PageReadOnly));
+    board.supervisor_store(1, PAGE * 4096, 1).unwrap();
+    assert_eq!(board.load(0, 1, 0), Ok(1));
+    board.supervisor_store(4, 8, 77).unwrap();
+    assert_eq!((board.supervisor_load(4, 8), board.memory()[11]), (Ok(77), 77));
+    board.detach(0, 0).unwrap();
+    assert_eq!(board.load(0, 1, 0), Err(Refusal::SlotEmpty));
+}

@@ -1,0 +1,175 @@
+//! What was reached: each refusal number of each call, each case, each route of each call; and what must be.
+
+use crate::cases::{Case, Reach, CASES};
+use crate::routes::{Route, ROUTES};
+use crate::trace::Deed;
+use model::Call;
+use std::fmt::Write;
+
+/// The numbers end here.
+const NUMBERS: usize = 14;
+
+/// Each call with the numbers that 01 lets it give.
+pub const KINDS: [(&str, &[u32]); 13] = [
+    ("user access", &[0, 1, 2, 3, 4, 5, 6, 7, 8, 9]),
+    ("supervisor access", &[0, 1, 2, 3, 4, 8, 10, 12]),
+    ("attach", &[0, 1, 2]),
+    ("detach", &[0, 1, 2]),
+    ("map", &[0, 1, 2, 10, 11]),
+    ("unmap", &[0, 1, 2, 8]),
+    ("protect", &[0, 1, 2, 8]),
+    ("flush all", &[0, 1]),
+    ("tag", &[0, 1, 2, 3]),
+    ("load-and-map", &[0, 1, 2, 3, 8, 13]),
+    ("drop tag", &[0, 1, 3]),
+    ("look", &[0, 1, 2]),
+    ("look's number", &[0, 1, 2]),
+];
+
+/// The row of a deed in `KINDS`; an audit is no call.
+fn row_of(deed: &Deed) -> Option<usize> {
+    Some(match deed {
+        Deed::Call(Call::UserAccess { .. }) => 0,
+        Deed::Call(Call::SupervisorAccess { .. }) => 1,
+        Deed::Call(Call::Attach { .. }) => 2,
+        Deed::Call(Call::Detach { .. }) => 3,
+        Deed::Call(Call::Map { .. }) => 4,
+        Deed::Call(Call::Unmap { .. }) => 5,
+        Deed::Call(Call::Protect { .. }) => 6,
+        Deed::Call(Call::FlushAll) => 7,
+        Deed::Call(Call::Tag { .. }) => 8,
+        Deed::Call(Call::LoadAndMap { .. }) => 9,
+        Deed::Call(Call::DropTag) => 10,
+        Deed::Look { .. } => 11,
+        Deed::LookNumber { .. } => 12,
+        Deed::Audit => return None,
+    })
+}
+
+/// Whether 01 lets this call give this number.
+pub fn in_table(deed: &Deed, number: u32) -> bool {
+    row_of(deed).map_or(true, |row| KINDS[row].1.contains(&number))
+}
+
+/// Counts of one kind of board, fresh or wild.
+#[derive(Clone)]
+struct Counts {
+    numbers: [[u64; NUMBERS]; KINDS.len()],
+    cases: [u64; CASES.len()],
+}
+
+const NONE: Counts = Counts { numbers: [[0; NUMBERS]; KINDS.len()], cases: [0; CASES.len()] };
+
+#[derive(Clone)]
+pub struct Coverage {
+    fresh: Counts,
+    wild: Counts,
+    routes: [[u64; KINDS.len()]; ROUTES.len()],
+    pub boards: u64,
+    /// Audits of boards, and the looks in them.
+    pub audits: u64,
+    pub audit_looks: u64,
+    /// Pairs of runs, and those in which a mark of the process differed: the others' accesses did move its lines.
+    pub pairs: u64,
+    pub pairs_apart: u64,
+}
+
+impl Coverage {
+    pub fn new() -> Coverage {
+        let routes = [[0; KINDS.len()]; ROUTES.len()];
+        Coverage { fresh: NONE, wild: NONE, routes, boards: 0, audits: 0, audit_looks: 0, pairs: 0, pairs_apart: 0 }
+    }
+
+    pub fn count(&mut self, fresh: bool, deed: &Deed, route: Route, number: u32, cases: &[Case]) {
+        let counts = if fresh { &mut self.fresh } else { &mut self.wild };
+        if let Some(row) = row_of(deed) {
+            counts.numbers[row][number as usize] += 1;
+            self.routes[route as usize][row] += 1;
+        }
+        for &case in cases {
+            counts.cases[case as usize] += 1;
+        }
+    }
+
+    fn count_of_rows(&self, rows: std::ops::Range<usize>) -> u64 {
+        rows.map(|row| self.fresh.numbers[row].iter().chain(&self.wild.numbers[row]).sum::<u64>()).sum()
+    }
+
+    /// The calls of 01, looks not among them.
+    pub fn calls(&self) -> u64 {
+        self.count_of_rows(0..11)
+    }
+
+    pub fn looks(&self) -> u64 {
+        self.count_of_rows(11..KINDS.len())
+    }
+
+    /// Everything that must be reached, in words, with its count. Number 1 cannot come on a fresh board: there numbers and
+    /// lengths agree. All else that a sequence of calls from a fresh board reaches must be reached on one.
+    pub fn required(&mut self) -> Vec<(String, &mut u64)> {
+        let mut cells = Vec::new();
+        for (counts, board) in [(&mut self.fresh, "fresh"), (&mut self.wild, "wild")] {
+            for (row, (call, table)) in counts.numbers.iter_mut().zip(&KINDS) {
+                for (number, count) in row.iter_mut().enumerate() {
+                    if table.contains(&(number as u32)) && (number != 1 || board == "wild") {
+                        cells.push((format!("{call}, number {number}, on a {board} board"), count));
+                    }
+                }
+            }
+            for (count, (_, reach, words)) in counts.cases.iter_mut().zip(CASES) {
+                if (*reach == Reach::Fresh) == (board == "fresh") {
+                    cells.push((format!("{words}, on a {board} board"), count));
+                }
+            }
+        }
+        for (row, (_, route)) in self.routes.iter_mut().zip(&ROUTES) {
+            for (count, (call, _)) in row.iter_mut().zip(&KINDS) {
+                cells.push((format!("{call} by the {route} route"), count));
+            }
+        }
+        cells.push(("an audit of a fresh board".into(), &mut self.audits));
+        cells.push(("a pair of runs".into(), &mut self.pairs));
+        cells.push(("a pair of runs whose marks differ".into(), &mut self.pairs_apart));
+        cells
+    }
+
+    /// What was not reached, and what was though no sequence of calls should.
+    pub fn problems(&mut self) -> Vec<String> {
+        let unreached = self.required().into_iter().filter(|(_, count)| **count == 0);
+        let mut problems: Vec<String> = unreached.map(|(words, _)| format!("not reached: {words}")).collect();
+        for (count, (_, reach, words)) in self.fresh.cases.iter().zip(CASES) {
+            if *reach == Reach::Wild && *count > 0 {
+                problems.push(format!("reached from a fresh board, which no calls should: {words}"));
+            }
+        }
+        problems
+    }
+
+    /// Sets every required count, for the self-test.
+    pub fn set_required(&mut self, value: u64) {
+        self.required().into_iter().for_each(|(_, count)| *count = value);
+    }
+
+    pub fn table(&self) -> String {
+        let mut text = format!("{:18}", "calls by number");
+        let line = "text grows";
+        (0..NUMBERS).for_each(|number| write!(text, "{number:>7}").expect(line));
+        ROUTES.iter().for_each(|(_, route)| write!(text, "{route:>8}").expect(line));
+        text.push('\n');
+        for (row, (call, table)) in KINDS.iter().enumerate() {
+            write!(text, "{call:18}").expect(line);
+            for number in 0..NUMBERS {
+                let count = self.fresh.numbers[row][number] + self.wild.numbers[row][number];
+                let shown = if table.contains(&(number as u32)) { count.to_string() } else { ".".into() };
+                write!(text, "{shown:>7}").expect(line);
+            }
+            self.routes.iter().for_each(|counts| write!(text, "{:>8}", counts[row]).expect(line));
+            text.push('\n');
+        }
+        writeln!(text, "\n  fresh   wild  events").expect(line);
+        for (index, (_, _, words)) in CASES.iter().enumerate() {
+            writeln!(text, "{:>7}{:>7}  {words}", self.fresh.cases[index], self.wild.cases[index]).expect(line);
+        }
+        text
+    }
+}

@@ -1,0 +1,149 @@
+//! The caller's side of a board: each buffer between canaries, at a start that varies but keeps the elements' alignment.
+
+use model::{Board, Shape};
+
+/// At least this many bytes of canary stand on each side of a buffer.
+const GUARD_BYTES: usize = 64;
+
+/// A buffer may start this many elements later, less one: bytes at odd addresses, words at other than the allocator's.
+pub const OFFSETS: usize = 16;
+
+pub trait Element: Copy + PartialEq + std::fmt::LowerHex {
+    const ZERO: Self;
+    /// The canary at a position: each position has its own, so a moved one shows too.
+    fn canary(position: usize) -> Self;
+}
+
+impl Element for u8 {
+    const ZERO: u8 = 0;
+
+    fn canary(position: usize) -> u8 {
+        0xC5 ^ (position as u8).wrapping_mul(29)
+    }
+}
+
+impl Element for u32 {
+    const ZERO: u32 = 0;
+
+    fn canary(position: usize) -> u32 {
+        u32::from_le_bytes([0, 1, 2, 3].map(|byte| u8::canary(4 * position + byte)))
+    }
+}
+
+impl Element for u64 {
+    const ZERO: u64 = 0;
+
+    fn canary(position: usize) -> u64 {
+        u64::from_le_bytes([0, 1, 2, 3, 4, 5, 6, 7].map(|byte| u8::canary(8 * position + byte)))
+    }
+}
+
+pub struct Guarded<T> {
+    /// Canaries, the buffer, canaries.
+    all: Vec<T>,
+    front: usize,
+    length: usize,
+    /// What the canaries were.
+    edge: Vec<T>,
+}
+
+impl<T: Element> Guarded<T> {
+    pub fn holding(contents: &[T], offset: usize) -> Guarded<T> {
+        let mut guarded = Guarded::zeroed(contents.len(), offset);
+        guarded.inner_mut().copy_from_slice(contents);
+        guarded
+    }
+
+    /// A buffer of zeros. The system gives memory for a large one only where it is touched.
+    pub fn zeroed(length: usize, offset: usize) -> Guarded<T> {
+        let edge: Vec<T> = (0..GUARD_BYTES / std::mem::size_of::<T>() + OFFSETS).map(T::canary).collect();
+        let front = edge.len() - OFFSETS + offset % OFFSETS;
+        let mut all = vec![T::ZERO; front + length + edge.len()];
+        all[..front].copy_from_slice(&edge[..front]);
+        all[front + length..].copy_from_slice(&edge);
+        Guarded { all, front, length, edge }
+    }
+
+    pub fn inner(&self) -> &[T] {
+        &self.all[self.front..self.front + self.length]
+    }
+
+    pub fn inner_mut(&mut self) -> &mut [T] {
+        &mut self.all[self.front..self.front + self.length]
+    }
+
+    pub fn len(&self) -> usize {
+        self.length
+    }
+
+    /// The buffer as a call takes it: with `null`, an empty one as NULL.
+    pub fn pointer(&mut self, null: bool) -> *mut T {
+        if null && self.length == 0 {
+            std::ptr::null_mut()
+        } else {
+            self.inner_mut().as_mut_ptr()
+        }
+    }
+
+    pub fn intact(&self) -> bool {
+        self.all[..self.front] == self.edge[..self.front] && self.all[self.front + self.length..] == self.edge[..]
+    }
+
+    /// Changes the canary next to the buffer, before or behind it: a planted fault.
+    pub fn break_canary(&mut self, before: bool) {
+        let next = if before { self.front - 1 } else { self.front + self.length };
+        let other = if before { self.front } else { 1 };
+        self.all[next] = T::canary(other);
+    }
+}
+
+/// The board that the library gets. The tag's two words stand between canaries as well.
+pub struct Real {
+    pub shape: Shape,
+    pub slots: Guarded<u32>,
+    pub words: Guarded<u64>,
+    pub records: Guarded<u64>,
+    pub cache: Guarded<u8>,
+    pub memory: Guarded<u8>,
+    pub set: Guarded<u32>,
+    pub name: Guarded<u64>,
+}
+
+impl Real {
+    /// The same board as the model's, its five buffers at these offsets.
+    pub fn of(board: &Board, offsets: &[usize; 5]) -> Real {
+        Real {
+            shape: board.shape,
+            slots: Guarded::holding(&board.slots, offsets[0]),
+            words: Guarded::holding(&board.words, offsets[1]),
+            records: Guarded::holding(&board.records, offsets[2]),
+            cache: Guarded::holding(&board.cache, offsets[3]),
+            memory: Guarded::holding(&board.memory, offsets[4]),
+            set: Guarded::holding(&[u32::from(board.tag.0)], offsets[0]),
+            name: Guarded::holding(&[board.tag.1], offsets[1]),
+        }
+    }
+
+    pub fn tag(&self) -> (u32, u64) {
+        (self.set.inner()[0], self.name.inner()[0])
+    }
+
+    pub fn set_tag(&mut self, set: u32, name: u64) {
+        self.set.inner_mut()[0] = set;
+        self.name.inner_mut()[0] = name;
+    }
+
+    /// The buffers around which a canary was written over.
+    pub fn broken(&self) -> Vec<&'static str> {
+        let intact = [
+            ("slots", self.slots.intact()),
+            ("words", self.words.intact()),
+            ("records", self.records.intact()),
+            ("cache", self.cache.intact()),
+            ("memory", self.memory.intact()),
+            ("the tag's set", self.set.intact()),
+            ("the tag's name", self.name.intact()),
+        ];
+        intact.iter().filter(|(_, intact)| !intact).map(|&(name, _)| name).collect()
+    }
+}

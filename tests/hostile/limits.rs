@@ -1,0 +1,27 @@
+//! 01's numbers, written out again: the boundaries that the test tries must not move with a mistake in the model.
+
+pub const PAGE_BYTES: u64 = 4096;
+pub const LINE_BYTES: u64 = 16;
+pub const LINES_PER_PAGE: u64 = 256;
+pub const PAGES_PER_SEGMENT: u64 = 1024;
+pub const SEGMENT_SPAN: u64 = 1 << 22;
+pub const SLOTS: u64 = 512;
+
+pub const FRAMES_MAX: u64 = 1_048_576;
+pub const PROCESSES_MAX: u64 = 16;
+pub const LINES_MAX: u64 = 32_768;
+
+pub const SEGMENT_FIRST: u64 = 2048;
+pub const SEGMENT_LAST: u64 = 4_190_207;
+pub const PAGE_FIRST: u64 = 0x20_0000;
+pub const PAGE_LAST: u64 = 0xFFBF_FFFF;
+
+/// User addresses end here, global addresses and line names there.
+pub const USER_END: u32 = 0x8000_0000;
+pub const GLOBAL_END: u64 = 1 << 44;
+pub const NAMES_END: u64 = 1 << 40;
+
+/// Where prefix 1 begins and where it ends, and where the page table region begins, as global addresses.
+pub const PREFIX1: u64 = 0x1_0000_0000;
+pub const PREFIX1_END: u64 = 0x2_0000_0000;
+pub const PAGE_TABLE: u64 = 0xFFC_0000_0000;

@@ -1,0 +1,242 @@
+//! The hostile test: the library against the model, by random calls on fresh and wild boards. tests/README.md says what it
+//! compares and how to run it.
+
+mod apart;
+mod cases;
+mod coverage;
+mod gen;
+mod guarded;
+mod largest;
+mod limits;
+mod pairs;
+mod plant;
+mod rng;
+mod routes;
+mod run;
+mod self_test;
+mod shrink;
+mod trace;
+
+use apart::End;
+use coverage::Coverage;
+use gen::World;
+use model::Answer;
+use pairs::Failure;
+use plant::Plant;
+use rng::Rng;
+use run::{Difference, Given, Run};
+use shrink::Fails;
+use std::process::ExitCode;
+use trace::{Deed, Start, Step, Trace};
+
+const USAGE: &str = "usage: hostile [--calls N] [--seed S] [--plant FAULT]
+       hostile --replay FILE
+       hostile --self-test
+       hostile --largest";
+const DEFAULT_CALLS: u64 = 250_000;
+const DEFAULT_SEED: u64 = 1;
+const TRACE_FILE: &str = "hostile-trace.txt";
+
+/// A pair of runs is tried after so many boards.
+const BOARDS_PER_PAIR: u64 = 40;
+
+struct Options {
+    calls: u64,
+    seed: u64,
+    plant: Option<Plant>,
+    replay: Option<String>,
+    self_test: bool,
+    largest: bool,
+}
+
+fn options() -> Result<Options, String> {
+    let mut options = Options {
+        calls: DEFAULT_CALLS,
+        seed: DEFAULT_SEED,
+        plant: None,
+        replay: None,
+        self_test: false,
+        largest: false,
+    };
+    let mut arguments = std::env::args().skip(1);
+    while let Some(option) = arguments.next() {
+        let mut value = || arguments.next().ok_or(format!("{option} needs a value"));
+        match option.as_str() {
+            "--calls" => options.calls = trace::number(&value()?)?,
+            "--seed" => options.seed = trace::number(&value()?)?,
+            "--plant" => options.plant = Some(trace::value_of(&plant::PLANTS, &value()?)?),
+            "--replay" => options.replay = Some(value()?),
+            "--self-test" => options.self_test = true,
+            "--largest" => options.largest = true,
+            _ => return Err(format!("unknown option '{option}'")),
+        }
+    }
+    Ok(options)
+}
+
+fn main() -> ExitCode {
+    let outcome = match options() {
+        Err(problem) => {
+            eprintln!("hostile: {problem}\n{USAGE}");
+            return ExitCode::from(2);
+        }
+        Ok(Options { self_test: true, .. }) => self_test::all(),
+        Ok(Options { largest: true, .. }) => largest::largest(),
+        Ok(Options { replay: Some(file), .. }) => replay(&file),
+        Ok(options) => in_a_child(&options),
+    };
+    ExitCode::from(told(outcome))
+}
+
+/// Says what is wrong, if anything is, and gives the program's status.
+fn told(outcome: Result<(), String>) -> u8 {
+    match outcome {
+        Ok(()) => 0,
+        Err(problem) => {
+            eprintln!("hostile: {problem}");
+            1
+        }
+    }
+}
+
+/// The search in a child. Where a signal ends it, it runs again with a record, and that is shrunk.
+fn in_a_child(options: &Options) -> Result<(), String> {
+    let work = || i32::from(told(search_and_report(options)));
+    match apart::child(work)? {
+        End::Code(0) => Ok(()),
+        End::Code(code) => std::process::exit(code),
+        End::Signal(_) => {
+            let (trace, difference) = apart::recorded(TRACE_FILE, work)?;
+            Err(report(apart::ended_by_signal, trace, difference)?)
+        }
+    }
+}
+
+// ----- the search -----
+
+/// Runs boards until so many calls were made, or one run fails.
+pub fn search(rng: &mut Rng, calls: u64, plant: Option<Plant>, coverage: &mut Coverage) -> Result<(), Failure> {
+    while coverage.calls() < calls {
+        let (start, world) = if rng.percent(25) {
+            let shape = gen::shape(rng);
+            (gen::fresh(rng, shape), World::new(rng, &shape))
+        } else {
+            gen::wild(rng)
+        };
+        board(rng, start, &world, plant, coverage)?;
+        coverage.boards += 1;
+        if coverage.boards % BOARDS_PER_PAIR == 0 {
+            pairs::pair(rng, coverage, false)?;
+        }
+    }
+    Ok(())
+}
+
+/// One run. From a fresh board it is long; on a large board every comparison costs, so it is short.
+fn board(
+    rng: &mut Rng,
+    start: Start,
+    world: &World,
+    plant: Option<Plant>,
+    coverage: &mut Coverage,
+) -> Result<(), Failure> {
+    let large = start.board.cache.len() > 100_000;
+    let length = match (start.fresh, large) {
+        (true, false) => 250,
+        (true, true) => 60,
+        (false, _) if !start.board.fits() => 14,
+        (false, _) => 40,
+    };
+    let mut run = Run::new(&start, plant);
+    let mut trace = Trace { start, steps: Vec::with_capacity(length), plant };
+    for index in 0..length {
+        let audit = trace.start.fresh && (index + 1 == length || rng.below(200) == 0);
+        let step = if audit {
+            Step { deed: Deed::Audit, manner: gen::manner(rng) }
+        } else {
+            gen::step(rng, world, &run.model, trace.start.fresh && index < 12)
+        };
+        trace.steps.push(step);
+        if let Err(difference) = run.step(&step, coverage) {
+            return Err(Failure::Run(Box::new(trace), difference));
+        }
+    }
+    Ok(())
+}
+
+fn search_and_report(options: &Options) -> Result<(), String> {
+    if let Some(problem) = routes::header_disagrees() {
+        return Err(problem);
+    }
+    let mut coverage = Coverage::new();
+    match search(&mut Rng::new(options.seed), options.calls, options.plant, &mut coverage) {
+        Ok(()) => {}
+        Err(Failure::Run(trace, difference)) => return Err(report(run::first_difference, *trace, difference)?),
+        Err(Failure::Apart(traces, text)) => return Err(report_pair(&traces, &text)?),
+    }
+    println!("{}", coverage.table());
+    let Coverage { audits, audit_looks, pairs, pairs_apart, boards, .. } = coverage;
+    println!("{} looks by themselves; {audits} audits of a fresh board with {audit_looks} looks", coverage.looks());
+    println!("{pairs} pairs of runs, equal for process 0; in {pairs_apart} of them a hit mark differs");
+    let problems = coverage.problems();
+    if !problems.is_empty() {
+        return Err(problems.join("\nhostile: "));
+    }
+    let calls = coverage.calls();
+    println!("hostile: {calls} calls on {boards} boards, all equal; every number and event reached");
+    Ok(())
+}
+
+// ----- failures -----
+
+fn write_trace(file: &str, words: &str, trace: &Trace) -> Result<String, String> {
+    let text = format!("# {words}\n# Run it again: hostile --replay {file}\n{}", trace::to_text(trace));
+    std::fs::write(file, &text).map_err(|error| format!("cannot write {file}: {error}"))?;
+    Ok(text)
+}
+
+/// Shrinks a failing run, prints it and writes it to the trace file.
+fn report(fails: Fails, trace: Trace, difference: Difference) -> Result<String, String> {
+    let found = trace.steps.len();
+    eprintln!("hostile: difference at step {found} of a run: {}", difference.text);
+    let (trace, difference) = shrink::shrink(fails, trace, difference);
+    let text = write_trace(TRACE_FILE, &difference.text, &trace)?;
+    let left = trace.steps.len();
+    eprint!("hostile: shrunk to {left} steps:\n{text}");
+    Ok(format!("{}; the trace is in {TRACE_FILE}, run it again with: hostile --replay {TRACE_FILE}", difference.text))
+}
+
+/// A pair has no difference of its own in either run, so it is not shrunk: both are written as they are.
+fn report_pair(traces: &[Trace; 2], text: &str) -> Result<String, String> {
+    for (file, trace) in [TRACE_FILE, "hostile-trace-2.txt"].iter().zip(traces) {
+        eprint!("{}", write_trace(file, text, trace)?);
+    }
+    Ok(format!("process 0 can tell two runs apart: {text}; they are in {TRACE_FILE} and hostile-trace-2.txt"))
+}
+
+fn given_text(given: &Given) -> String {
+    match given {
+        Given::Call(Answer { number, value, mark }, event) => {
+            format!("number {number}, value {value:#x}, mark {mark}: {event:?}")
+        }
+        Given::Look(number) => format!("number {number}"),
+        Given::Audit => "as the plain machine's memory".into(),
+    }
+}
+
+/// Runs a trace again and tells each step.
+fn replay(file: &str) -> Result<(), String> {
+    let text = std::fs::read_to_string(file).map_err(|error| format!("cannot read {file}: {error}"))?;
+    let trace = trace::from_text(&text).map_err(|problem| format!("{file}, {problem}"))?;
+    let mut run = Run::new(&trace.start, trace.plant);
+    println!("{:?}, fresh: {}", trace.start.board.shape, trace.start.fresh);
+    for (index, step) in trace.steps.iter().enumerate() {
+        println!("{}: {}", index + 1, trace::step_text(step));
+        match run.step(step, &mut Coverage::new()) {
+            Ok(given) => println!("    {}", given_text(&given)),
+            Err(difference) => return Err(format!("step {}: {}", index + 1, difference.text)),
+        }
+    }
+    println!("hostile: {} steps, no difference", trace.steps.len());
+    Ok(())
+}

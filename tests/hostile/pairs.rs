@@ -1,0 +1,128 @@
+//! Demand 3 by samples: two runs from one fresh board, with the same supervisor calls and the same accesses by process 0, the
+//! others' accesses changed, added or left out. No segment that process 0 ever holds is ever held for writing by another:
+//! process 0 attaches only the world's first segment, others attach that one read-only. Then process 0 gets the same numbers
+//! and values, and at the end the same bytes stand in the mapped pages of its segment; only its marks may differ.
+
+use crate::coverage::Coverage;
+use crate::gen::{self, World};
+use crate::limits::*;
+use crate::rng::Rng;
+use crate::run::{Difference, Given, Run};
+use crate::trace::{Deed, Start, Step, Trace};
+use model::{segment_in_range, Answer, Call, Shape};
+
+const STEPS: usize = 150;
+
+pub enum Failure {
+    /// One run differs from the model, as any run may.
+    Run(Box<Trace>, Difference),
+    /// Process 0 can tell the two runs apart.
+    Apart(Box<[Trace; 2]>, String),
+}
+
+/// One of the two runs, as far as it has come.
+struct Half {
+    run: Run,
+    trace: Trace,
+    /// The answers to process 0.
+    answers: Vec<Answer>,
+}
+
+impl Half {
+    fn new(start: &Start) -> Half {
+        let trace = Trace { start: start.clone(), steps: Vec::new(), plant: None };
+        Half { run: Run::new(start, None), trace, answers: Vec::new() }
+    }
+
+    fn step(&mut self, step: Step, coverage: &mut Coverage) -> Result<(), Failure> {
+        self.trace.steps.push(step);
+        match self.run.step(&step, coverage) {
+            Ok(Given::Call(answer, _)) if is_access(&step, |process| process == 0) => self.answers.push(answer),
+            Ok(_) => {}
+            Err(difference) => return Err(Failure::Run(Box::new(self.trace.clone()), difference)),
+        }
+        Ok(())
+    }
+
+    /// Another access by some process but 0.
+    fn others_access(&mut self, rng: &mut Rng, world: &World, coverage: &mut Coverage) -> Result<(), Failure> {
+        let process = 1 + rng.below(self.run.model.shape.processes - 1);
+        let deed = Deed::Call(gen::user_access(rng, world, &self.run.model, process));
+        self.step(Step { deed, manner: gen::manner(rng) }, coverage)
+    }
+}
+
+fn is_access(step: &Step, by: impl Fn(u64) -> bool) -> bool {
+    matches!(step.deed, Deed::Call(Call::UserAccess { process, .. }) if by(process))
+}
+
+/// Keeps the premise: see above.
+fn apart(call: Call, own: u64) -> Call {
+    match call {
+        Call::Attach { process: 0, slot, segment, write } if segment_in_range(segment) => {
+            Call::Attach { process: 0, slot, segment: own, write }
+        }
+        Call::Attach { process, slot, segment, .. } if process != 0 && segment == own => {
+            Call::Attach { process, slot, segment, write: false }
+        }
+        other => other,
+    }
+}
+
+/// One pair. With `plant`, what process 0 gets in the second run is altered: the self-test's fault.
+pub fn pair(rng: &mut Rng, coverage: &mut Coverage, plant: bool) -> Result<(), Failure> {
+    let shape = Shape { frames: 2 + rng.below(4), uncached: rng.below(2), processes: 2, lines: 1 << rng.below(4) };
+    let shape = Shape { processes: shape.processes + rng.below(2), ..shape };
+    let start = gen::fresh(rng, shape);
+    let world = World::new(rng, &shape);
+    let own = world.segments[0];
+    let mut first = Half::new(&start);
+    for index in 0..STEPS {
+        let call = apart(gen::call(rng, &world, &first.run.model, index < 10), own);
+        first.step(Step { deed: Deed::Call(call), manner: gen::manner(rng) }, coverage)?;
+    }
+    let mut second = Half::new(&start);
+    for step in first.trace.steps.clone() {
+        if rng.percent(15) {
+            second.others_access(rng, &world, coverage)?;
+        }
+        match is_access(&step, |process| process != 0) {
+            true if rng.percent(40) => {}
+            true if rng.percent(50) => second.others_access(rng, &world, coverage)?,
+            _ => second.step(step, coverage)?,
+        }
+    }
+    if plant {
+        if let Some(answer) = second.answers.last_mut() {
+            answer.value ^= 1;
+        }
+    }
+    let audit = Step { deed: Deed::Audit, manner: gen::manner(rng) };
+    first.step(audit, coverage)?;
+    second.step(audit, coverage)?;
+    coverage.pairs += 1;
+    let marks = |half: &Half| half.answers.iter().map(|answer| answer.mark).collect::<Vec<_>>();
+    coverage.pairs_apart += u64::from(marks(&first) != marks(&second));
+    match tells_apart(&first, &second, own) {
+        Some(text) => Err(Failure::Apart(Box::new([first.trace, second.trace]), text)),
+        None => Ok(()),
+    }
+}
+
+/// What process 0 could tell the two runs apart by. Both have been audited: what look shows is the plain machine's memory.
+fn tells_apart(first: &Half, second: &Half, own: u64) -> Option<String> {
+    let replies = |half: &Half| half.answers.iter().map(|answer| (answer.number, answer.value)).collect::<Vec<_>>();
+    let (ours, theirs) = (replies(first), replies(second));
+    if let Some(at) = (0..ours.len()).find(|&at| theirs.get(at) != Some(&ours[at])) {
+        let (one, two) = (ours[at], theirs.get(at));
+        return Some(format!("process 0's access {at}: number and value {one:?} in one run, {two:?} in the other"));
+    }
+    let (words, memory) = (&first.run.model.words, first.run.flat_memory());
+    if *words != second.run.model.words {
+        return Some("the page maps differ at the end".into());
+    }
+    let pages = memory.chunks(PAGE_BYTES as usize).zip(second.run.flat_memory().chunks(PAGE_BYTES as usize));
+    let differ = |(word, (one, two)): (&u64, (&[u8], &[u8]))| word / 4 * PAGE_BYTES / SEGMENT_SPAN == own && one != two;
+    let frame = words.iter().zip(pages).position(differ)?;
+    Some(format!("the bytes in frame {frame}, a page of process 0's segment, differ at the end"))
+}

@@ -1,0 +1,150 @@
+//! Planted faults: each one alters what the comparison sees of the library (or, where a check is between the model and the
+//! plain machine, of those), so that the self-test can show that the check behind it fails.
+
+use crate::guarded::{Element, Guarded, Real};
+use crate::routes::Looked;
+use crate::run::Kind;
+use model::{Answer, Board, Call, Event, Plain, PlainAnswer, Record};
+
+#[derive(Clone, Copy, Debug, PartialEq, Eq)]
+pub enum Plant {
+    Number,
+    Value,
+    Mark,
+    OffTable,
+    Slots,
+    Words,
+    Records,
+    Cache,
+    Memory,
+    Refused,
+    TagName,
+    TagSet,
+    Canary,
+    LookPlace,
+    LookNumber,
+    LookWrites,
+    PlainNumber,
+    PlainValue,
+    PlainMemory,
+    TwoCopies,
+    Panic,
+    Signal,
+}
+
+pub const PLANTS: [(Plant, &str); 22] = [
+    (Plant::Number, "number"),
+    (Plant::Value, "value"),
+    (Plant::Mark, "mark"),
+    (Plant::OffTable, "off-table"),
+    (Plant::Slots, "slots"),
+    (Plant::Words, "words"),
+    (Plant::Records, "records"),
+    (Plant::Cache, "cache"),
+    (Plant::Memory, "memory"),
+    (Plant::Refused, "refused"),
+    (Plant::TagName, "tag-name"),
+    (Plant::TagSet, "tag-set"),
+    (Plant::Canary, "canary"),
+    (Plant::LookPlace, "look-place"),
+    (Plant::LookNumber, "look-number"),
+    (Plant::LookWrites, "look-writes"),
+    (Plant::PlainNumber, "plain-number"),
+    (Plant::PlainValue, "plain-value"),
+    (Plant::PlainMemory, "plain-memory"),
+    (Plant::TwoCopies, "two-copies"),
+    (Plant::Panic, "panic"),
+    (Plant::Signal, "signal"),
+];
+
+/// Flips the lowest bit of a buffer's last element, if it has one.
+fn flip_last<T: Element + std::ops::BitXorAssign + From<u8>>(buffer: &mut Guarded<T>) {
+    if let Some(last) = buffer.inner_mut().last_mut() {
+        *last ^= T::from(1);
+    }
+}
+
+impl Plant {
+    /// The check that has to find it.
+    pub fn found_as(self) -> Kind {
+        match self {
+            Plant::Number => Kind::Number,
+            Plant::Value => Kind::Value,
+            Plant::Mark => Kind::Mark,
+            Plant::OffTable => Kind::Table,
+            Plant::Slots | Plant::Words | Plant::Records | Plant::Cache | Plant::Memory => Kind::Buffer,
+            Plant::Refused => Kind::Refused,
+            Plant::TagName | Plant::TagSet => Kind::Tag,
+            Plant::Canary => Kind::Canary,
+            Plant::LookPlace | Plant::LookNumber => Kind::Look,
+            Plant::LookWrites => Kind::Buffer,
+            Plant::PlainNumber | Plant::PlainValue | Plant::PlainMemory => Kind::Plain,
+            Plant::TwoCopies => Kind::TwoCopies,
+            Plant::Panic => Kind::Panic,
+            Plant::Signal => Kind::Signal,
+        }
+    }
+
+    /// After a call: the library's board and answer, and the model's.
+    pub fn after_call(
+        self,
+        call: &Call,
+        event: Event,
+        (real, answer): (&mut Real, &mut Answer),
+        (model, expected): (&mut Board, &mut Answer),
+    ) {
+        match (self, event) {
+            (Plant::Number, Event::Refused(9)) => answer.number = 7,
+            (Plant::Value, Event::Hit) if answer.value != 0 => answer.value ^= 0x100,
+            (Plant::Mark, Event::MissWriteBack) => answer.mark = 1,
+            (Plant::OffTable, Event::Refused(7)) => (answer.number, expected.number) = (11, 11),
+            (Plant::Slots, Event::Done) if matches!(call, Call::Detach { .. }) => flip_last(&mut real.slots),
+            (Plant::Words, Event::Protected { lines: 1.. }) => flip_last(&mut real.words),
+            (Plant::Records, Event::Unmapped { dropped: 1.., .. }) => flip_last(&mut real.records),
+            (Plant::Cache, Event::Inserted { wrote_back: true }) => flip_last(&mut real.cache),
+            (Plant::Memory, Event::Flushed { written: 1.., .. }) => flip_last(&mut real.memory),
+            (Plant::Refused, Event::Refused(11)) => {
+                flip_last(&mut real.memory);
+                model.memory.copy_from_slice(real.memory.inner());
+            }
+            (Plant::TagName, Event::Done) if matches!(call, Call::Tag { .. }) => flip_last(&mut real.name),
+            (Plant::TagSet, Event::Done) if matches!(call, Call::Tag { .. }) => real.set.inner_mut()[0] = 2,
+            (Plant::Canary, Event::FoundHeld) => real.cache.break_canary(false),
+            (Plant::Panic, Event::Mapped { by_prefix1: 1.., .. }) => panic!("a planted panic"),
+            (Plant::Signal, Event::Unmapped { written: 1.., .. }) => std::process::abort(),
+            _ => {}
+        }
+    }
+
+    pub fn after_look(self, real: &mut Real, looked: &mut Looked) {
+        match (self, &mut looked.bytes) {
+            (Plant::LookPlace, Some((at, _))) if real.cache.inner().as_ptr_range().contains(at) => {
+                *at = at.wrapping_add(16);
+            }
+            (Plant::LookWrites, Some(_)) => flip_last(&mut real.records),
+            _ => {}
+        }
+    }
+
+    pub fn after_look_number(self, number: &mut u32) {
+        if self == Plant::LookNumber && *number == 2 {
+            *number = 1;
+        }
+    }
+
+    pub fn after_plain(self, event: Event, answer: &mut PlainAnswer) {
+        match (self, event) {
+            (Plant::PlainNumber, Event::Refused(13)) => answer.number = 8,
+            (Plant::PlainValue, Event::MissWriteBack) if answer.value != 0 => answer.value ^= 1,
+            _ => {}
+        }
+    }
+
+    pub fn before_audit(self, plain: &mut Plain, held: &mut Vec<(u64, Record)>) {
+        match self {
+            Plant::PlainMemory if !held.is_empty() => plain.memory[0] ^= 1,
+            Plant::TwoCopies => held.extend(held.first().copied()),
+            _ => {}
+        }
+    }
+}

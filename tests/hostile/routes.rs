@@ -1,0 +1,353 @@
+//! The three routes to the library: the raw declarations of the Rust crate, the C header (by through.c), and the safe Rust
+//! crate. Each brings one call, or one look, to the board of `Real`.
+
+use crate::guarded::Real;
+use model::{Answer, Call, Shape};
+use oaledva::{ffi, Lent, Refusal};
+
+#[derive(Clone, Copy, Debug, PartialEq, Eq)]
+pub enum Route {
+    Raw,
+    Header,
+    Safe,
+}
+
+pub const ROUTES: [(Route, &str); 3] = [(Route::Raw, "raw"), (Route::Header, "header"), (Route::Safe, "safe")];
+
+/// How a call is brought.
+#[derive(Clone, Copy, Debug, PartialEq, Eq)]
+pub struct Manner {
+    pub route: Route,
+    /// The number that says yes, in flags and in the tag's set: anything but 0 (the safe route has its own).
+    pub yes: u32,
+    /// Empty buffers go as NULL (not on the safe route).
+    pub null: bool,
+}
+
+impl Manner {
+    pub fn flag(&self, is: bool) -> u32 {
+        if is {
+            self.yes
+        } else {
+            0
+        }
+    }
+}
+
+/// A function of the raw declarations, on the shape and the five buffers of a board, then the arguments.
+macro_rules! raw {
+    ($board:expr, $name:ident $(, $argument:expr)*) => {
+        ffi::$name(
+            $board.frames,
+            $board.uncached,
+            $board.processes,
+            $board.lines,
+            $board.slots,
+            $board.slots_length,
+            $board.words,
+            $board.words_length,
+            $board.records,
+            $board.records_length,
+            $board.cache,
+            $board.cache_length,
+            $board.memory,
+            $board.memory_length
+            $(, $argument)*
+        )
+    };
+}
+
+/// What a look gave: the number where the route tells it, and where the bytes stand, with their length.
+pub struct Looked {
+    pub number: Option<u32>,
+    pub bytes: Option<(*const u8, usize)>,
+}
+
+/// The mirror of `oaledva_board` in include/oaledva.h.
+#[repr(C)]
+#[derive(Clone, Copy, Debug, PartialEq, Eq)]
+pub struct CBoard {
+    frames: usize,
+    uncached: usize,
+    processes: usize,
+    lines: usize,
+    slots: *mut u32,
+    slots_length: usize,
+    words: *mut u64,
+    words_length: usize,
+    records: *mut u64,
+    records_length: usize,
+    cache: *mut u8,
+    cache_length: usize,
+    memory: *mut u8,
+    memory_length: usize,
+    set: u32,
+    name: u64,
+}
+
+impl CBoard {
+    fn of(real: &mut Real, null: bool) -> CBoard {
+        let (set, name) = real.tag();
+        CBoard {
+            frames: real.shape.frames as usize,
+            uncached: real.shape.uncached as usize,
+            processes: real.shape.processes as usize,
+            lines: real.shape.lines as usize,
+            slots: real.slots.pointer(null),
+            slots_length: real.slots.len(),
+            words: real.words.pointer(null),
+            words_length: real.words.len(),
+            records: real.records.pointer(null),
+            records_length: real.records.len(),
+            cache: real.cache.pointer(null),
+            cache_length: real.cache.len(),
+            memory: real.memory.pointer(null),
+            memory_length: real.memory.len(),
+            set,
+            name,
+        }
+    }
+}
+
+#[repr(C)]
+struct CAnswer {
+    number: u32,
+    mark: u32,
+    value: u32,
+}
+
+#[link(name = "through", kind = "static")]
+extern "C" {
+    fn through_board_bytes() -> usize;
+    fn through_lengths(frames: usize, processes: usize, lines: usize, lengths: *mut [usize; 5]);
+    fn through_user_access(b: *mut CBoard, process: usize, store: u32, width: u32, at: u32, value: u32) -> CAnswer;
+    fn through_supervisor_access(b: *mut CBoard, store: u32, width: u32, address: u64, value: u32) -> CAnswer;
+    fn through_attach(b: *mut CBoard, process: usize, slot: usize, segment: u64, write: u32) -> CAnswer;
+    fn through_detach(b: *mut CBoard, process: usize, slot: usize) -> CAnswer;
+    fn through_map(b: *mut CBoard, page: u64, frame: usize, write: u32) -> CAnswer;
+    fn through_unmap(b: *mut CBoard, page: u64) -> CAnswer;
+    fn through_protect(b: *mut CBoard, page: u64, write: u32) -> CAnswer;
+    fn through_flush_all(b: *mut CBoard) -> CAnswer;
+    fn through_tag(b: *mut CBoard, line: u64) -> CAnswer;
+    fn through_load_and_map(b: *mut CBoard, line: usize) -> CAnswer;
+    fn through_drop_tag(b: *mut CBoard) -> CAnswer;
+    fn through_look(b: *mut CBoard, line: usize) -> *const u8;
+    fn through_look_number(b: *mut CBoard, line: usize) -> u32;
+}
+
+/// What the header says of sizes, against the mirror above and the model's fresh board. Gives what disagrees.
+pub fn header_disagrees() -> Option<String> {
+    let (theirs, ours) = (unsafe { through_board_bytes() }, std::mem::size_of::<CBoard>());
+    if theirs != ours {
+        return Some(format!("oaledva_board has {theirs} bytes, the test's mirror of it {ours}"));
+    }
+    let fresh = model::Board::fresh(Shape { frames: 3, uncached: 1, processes: 2, lines: 8 }).lengths();
+    let ours = [fresh.slots, fresh.words, fresh.records, fresh.cache, fresh.memory].map(|length| length as usize);
+    let mut theirs = [0; 5];
+    unsafe { through_lengths(3, 2, 8, &mut theirs) };
+    (theirs != ours).then(|| format!("the header's lengths are {theirs:?}, the model's {ours:?}"))
+}
+
+/// Whether the safe route can carry the board's tag: it has no name where none is pending.
+pub fn safe_can_carry(real: &Real) -> bool {
+    let (set, name) = real.tag();
+    set != 0 || name == 0
+}
+
+/// Brings a call. `Err` where the C side wrote where it may not: over its board's numbers, pointers or surroundings.
+pub fn call(real: &mut Real, call: &Call, manner: &Manner) -> Result<Answer, String> {
+    match manner.route {
+        Route::Raw => Ok(unsafe { raw_call(real, call, manner) }),
+        Route::Header => caged(real, manner, |board| unsafe { header_call(board, call, manner) }),
+        Route::Safe => Ok(safe_call(real, call)),
+    }
+}
+
+pub fn look(real: &mut Real, line: u64, manner: &Manner) -> Result<Looked, String> {
+    let line = line as usize;
+    match manner.route {
+        Route::Raw => {
+            let board = CBoard::of(real, manner.null);
+            let bytes = match unsafe { raw!(board, oaledva_look, line) } {
+                ffi::NOWHERE => None,
+                place if place < ffi::IN_MEMORY => Some(board.cache.wrapping_add(place as usize)),
+                place => Some(board.memory.wrapping_add((place - ffi::IN_MEMORY) as usize)),
+            };
+            Ok(Looked { number: None, bytes: bytes.map(|at| (at.cast_const(), oaledva::LINE_BYTES)) })
+        }
+        Route::Header => {
+            let at = caged(real, manner, |board| unsafe { through_look(board, line) })?;
+            Ok(Looked { number: None, bytes: (!at.is_null()).then_some((at, oaledva::LINE_BYTES)) })
+        }
+        Route::Safe => Ok(match lent(real).look(line) {
+            Ok(bytes) => Looked { number: Some(0), bytes: Some((bytes.as_ptr(), bytes.len())) },
+            Err(refusal) => Looked { number: Some(refusal.number()), bytes: None },
+        }),
+    }
+}
+
+pub fn look_number(real: &mut Real, line: u64, manner: &Manner) -> Result<u32, String> {
+    let line = line as usize;
+    match manner.route {
+        Route::Raw => {
+            let board = CBoard::of(real, manner.null);
+            Ok(unsafe { raw!(board, oaledva_look_number, line) })
+        }
+        Route::Header => caged(real, manner, |board| unsafe { through_look_number(board, line) }),
+        Route::Safe => Ok(lent(real).look_number(line)),
+    }
+}
+
+// ----- raw -----
+
+unsafe fn raw_call(real: &mut Real, call: &Call, manner: &Manner) -> Answer {
+    let b = CBoard::of(real, manner.null);
+    let (set, name) = (real.set.pointer(false), real.name.pointer(false));
+    let packed = match *call {
+        Call::UserAccess { process, store, width, address, value } => {
+            let store = manner.flag(store);
+            raw!(b, oaledva_user_access, b.set, b.name, process as usize, store, width, address, value)
+        }
+        Call::SupervisorAccess { store, width, global, value } => {
+            raw!(b, oaledva_supervisor_access, b.set, b.name, manner.flag(store), width, global, value)
+        }
+        Call::Attach { process, slot, segment, write } => {
+            raw!(b, oaledva_attach, process as usize, slot as usize, segment, manner.flag(write))
+        }
+        Call::Detach { process, slot } => raw!(b, oaledva_detach, process as usize, slot as usize),
+        Call::Map { page, frame, write } => raw!(b, oaledva_map, page, frame as usize, manner.flag(write)),
+        Call::Unmap { page } => raw!(b, oaledva_unmap, page),
+        Call::Protect { page, write } => raw!(b, oaledva_protect, page, manner.flag(write)),
+        Call::FlushAll => raw!(b, oaledva_flush_all),
+        Call::Tag { name: line } => raw!(b, oaledva_tag, set, name, line),
+        Call::LoadAndMap { line } => raw!(b, oaledva_load_and_map, set, name, line as usize),
+        Call::DropTag => raw!(b, oaledva_drop_tag, set, name),
+    };
+    Answer { number: (packed >> 33) as u32, mark: (packed >> 32) as u32 & 1, value: packed as u32 }
+}
+
+// ----- through the header -----
+
+/// A board for C between canaries.
+#[repr(C)]
+struct Cage {
+    front: [u64; 8],
+    board: CBoard,
+    back: [u64; 8],
+}
+
+const BARS: [u64; 8] = [0xC0DE_CAFE_5EED_F00D; 8];
+
+impl Cage {
+    /// Nothing but the tag was written since it held this board.
+    fn check(&self, before: &CBoard) -> Result<(), String> {
+        if self.front != BARS || self.back != BARS {
+            return Err("bytes around the C board were written".into());
+        }
+        if (CBoard { set: before.set, name: before.name, ..self.board }) != *before {
+            return Err("the C board's numbers, pointers or lengths were written".into());
+        }
+        Ok(())
+    }
+}
+
+/// Lends C a board in a cage, and takes its tag back.
+fn caged<T>(real: &mut Real, manner: &Manner, call: impl FnOnce(*mut CBoard) -> T) -> Result<T, String> {
+    let before = CBoard::of(real, manner.null);
+    let mut cage = Cage { front: BARS, board: before, back: BARS };
+    let result = call(&mut cage.board);
+    real.set_tag(cage.board.set, cage.board.name);
+    cage.check(&before).map(|()| result)
+}
+
+/// For the self-test: whether the cage shows what was written, and the tag's words alone are free.
+pub fn cage_shows(real: &mut Real) -> bool {
+    let board = CBoard::of(real, false);
+    let shows = |edit: fn(&mut Cage)| {
+        let mut cage = Cage { front: BARS, board, back: BARS };
+        edit(&mut cage);
+        cage.check(&board).is_err()
+    };
+    shows(|cage| cage.front[7] ^= 1)
+        && shows(|cage| cage.back[0] ^= 1)
+        && shows(|cage| cage.board.lines += 1)
+        && shows(|cage| cage.board.memory_length += 1)
+        && !shows(|cage| cage.board.name ^= 1)
+}
+
+unsafe fn header_call(b: *mut CBoard, call: &Call, manner: &Manner) -> Answer {
+    let answer = match *call {
+        Call::UserAccess { process, store, width, address, value } => {
+            through_user_access(b, process as usize, manner.flag(store), width, address, value)
+        }
+        Call::SupervisorAccess { store, width, global, value } => {
+            through_supervisor_access(b, manner.flag(store), width, global, value)
+        }
+        Call::Attach { process, slot, segment, write } => {
+            through_attach(b, process as usize, slot as usize, segment, manner.flag(write))
+        }
+        Call::Detach { process, slot } => through_detach(b, process as usize, slot as usize),
+        Call::Map { page, frame, write } => through_map(b, page, frame as usize, manner.flag(write)),
+        Call::Unmap { page } => through_unmap(b, page),
+        Call::Protect { page, write } => through_protect(b, page, manner.flag(write)),
+        Call::FlushAll => through_flush_all(b),
+        Call::Tag { name } => through_tag(b, name),
+        Call::LoadAndMap { line } => through_load_and_map(b, line as usize),
+        Call::DropTag => through_drop_tag(b),
+    };
+    Answer { number: answer.number, mark: answer.mark, value: answer.value }
+}
+
+// ----- the safe crate -----
+
+fn lent(real: &mut Real) -> Lent<'_> {
+    let (set, name) = real.tag();
+    let shape = oaledva::Shape {
+        frames: real.shape.frames as usize,
+        uncached: real.shape.uncached as usize,
+        processes: real.shape.processes as usize,
+        lines: real.shape.lines as usize,
+    };
+    Lent::over(
+        shape,
+        real.slots.inner_mut(),
+        real.words.inner_mut(),
+        real.records.inner_mut(),
+        real.cache.inner_mut(),
+        real.memory.inner_mut(),
+        (set != 0).then_some(name),
+    )
+}
+
+fn safe_call(real: &mut Real, call: &Call) -> Answer {
+    let mut board = lent(real);
+    let done: Result<u32, Refusal> = match *call {
+        Call::UserAccess { process, store: false, width, address, .. } => board.load(process as usize, width, address),
+        Call::UserAccess { process, store: true, width, address, value } => {
+            board.store(process as usize, width, address, value).map(|()| 0)
+        }
+        Call::SupervisorAccess { store: false, width, global, .. } => board.supervisor_load(width, global),
+        Call::SupervisorAccess { store: true, width, global, value } => {
+            board.supervisor_store(width, global, value).map(|()| 0)
+        }
+        Call::Attach { process, slot, segment, write } => {
+            board.attach(process as usize, slot as usize, segment, write).map(|()| 0)
+        }
+        Call::Detach { process, slot } => board.detach(process as usize, slot as usize).map(|()| 0),
+        Call::Map { page, frame, write } => board.map(page, frame as usize, write).map(|()| 0),
+        Call::Unmap { page } => board.unmap(page).map(|()| 0),
+        Call::Protect { page, write } => board.protect(page, write).map(|()| 0),
+        Call::FlushAll => board.flush_all().map(|()| 0),
+        Call::Tag { name } => board.tag(name).map(|()| 0),
+        Call::LoadAndMap { line } => board.load_and_map(line as usize).map(|()| 0),
+        Call::DropTag => board.drop_tag().map(|()| 0),
+    };
+    let (mark, pending) = (u32::from(board.hit()), board.pending());
+    if matches!(call, Call::Tag { .. } | Call::LoadAndMap { .. } | Call::DropTag) {
+        real.set_tag(u32::from(pending.is_some()), pending.unwrap_or(0));
+    }
+    match done {
+        Ok(value) => Answer { number: 0, mark, value },
+        Err(refusal) => Answer { number: refusal.number(), mark, value: 0 },
+    }
+}

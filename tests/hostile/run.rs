@@ -1,0 +1,338 @@
+//! A run: the library beside the model (and, from a fresh board, the plain machine), compared after every step.
+
+use crate::apart;
+use crate::cases::{self, Facts};
+use crate::coverage::{self, Coverage};
+use crate::guarded::{Element, Real};
+use crate::limits::{LINES_PER_PAGE, LINE_BYTES};
+use crate::plant::Plant;
+use crate::routes::{self, Manner, Route};
+use crate::trace::{Deed, Start, Step, Trace};
+use model::{Answer, Board, Call, Event, Plain, Record};
+use std::fmt::Display;
+use std::panic::{catch_unwind, AssertUnwindSafe};
+
+#[derive(Clone, Copy, Debug, PartialEq, Eq)]
+pub enum Kind {
+    Number,
+    Value,
+    Mark,
+    Table,
+    Canary,
+    Buffer,
+    Tag,
+    Refused,
+    Look,
+    Plain,
+    TwoCopies,
+    Panic,
+    Signal,
+}
+
+/// The first thing that is not as it should be.
+#[derive(Clone, Debug, PartialEq, Eq)]
+pub struct Difference {
+    pub kind: Kind,
+    pub text: String,
+}
+
+type Check = Result<(), Difference>;
+
+pub fn differs(kind: Kind, text: impl Into<String>) -> Difference {
+    Difference { kind, text: text.into() }
+}
+
+fn same<T: PartialEq + Display>(kind: Kind, what: &str, library: T, expected: T, whose: &str) -> Check {
+    if library == expected {
+        return Ok(());
+    }
+    Err(differs(kind, format!("{what}: the library gives {library}, {whose} {expected}")))
+}
+
+fn same_buffer<T: Element>(kind: Kind, what: &str, library: &[T], expected: &[T], whose: &str) -> Check {
+    if library == expected {
+        return Ok(());
+    }
+    let at = library.iter().zip(expected).position(|(ours, theirs)| ours != theirs).expect("lengths never change");
+    let (ours, theirs) = (library[at], expected[at]);
+    Err(differs(kind, format!("{what}[{at}]: {ours:#x} in the library's, {theirs:#x} in {whose}")))
+}
+
+/// What a step gave, for the verbose replay and for pairs of runs.
+#[derive(Clone, Copy, Debug, PartialEq, Eq)]
+pub enum Given {
+    Call(Answer, Event),
+    Look(u32),
+    Audit,
+}
+
+/// A look: its number, and where 01 puts the bytes.
+struct Seen {
+    number: u32,
+    line: u64,
+    /// How many records hold the line, and the place of the lowest.
+    holders: usize,
+    lowest: Option<u64>,
+}
+
+pub struct Run {
+    fresh: bool,
+    pub model: Board,
+    plain: Option<Plain>,
+    /// The buffers after the last call that was done: what a refused one must leave.
+    kept: Board,
+    real: Real,
+    plant: Option<Plant>,
+}
+
+impl Run {
+    pub fn new(start: &Start, plant: Option<Plant>) -> Run {
+        apart::record_start(start, plant);
+        let model = start.board.clone();
+        Run {
+            fresh: start.fresh,
+            plain: start.fresh.then(|| Plain::of(&model)),
+            kept: model.clone(),
+            real: Real::of(&model, &start.offsets),
+            model,
+            plant,
+        }
+    }
+
+    /// Does one step on every machine and compares. A panic counts as a difference.
+    pub fn step(&mut self, step: &Step, coverage: &mut Coverage) -> Result<Given, Difference> {
+        apart::record_step(step);
+        catch_unwind(AssertUnwindSafe(|| self.compared(step, coverage))).unwrap_or_else(|panic| {
+            let text = match (panic.downcast_ref::<String>(), panic.downcast_ref::<&str>()) {
+                (Some(text), _) => text.clone(),
+                (_, Some(text)) => text.to_string(),
+                _ => "no message".into(),
+            };
+            Err(differs(Kind::Panic, format!("panic: {text}")))
+        })
+    }
+
+    fn compared(&mut self, step: &Step, coverage: &mut Coverage) -> Result<Given, Difference> {
+        let mut manner = step.manner;
+        if manner.route == Route::Safe {
+            manner.yes = 1;
+        }
+        self.real.set.inner_mut()[0] = manner.flag(self.model.tag.0);
+        if manner.route == Route::Safe && !routes::safe_can_carry(&self.real) {
+            manner.route = Route::Raw;
+        }
+        match step.deed {
+            Deed::Call(call) => self.call(&call, &manner, coverage),
+            Deed::Look { line } => self.look(line, &manner, coverage),
+            Deed::LookNumber { line } => self.look_number(line, &manner, coverage),
+            Deed::Audit => self.audit(&manner, coverage),
+        }
+    }
+
+    fn call(&mut self, call: &Call, manner: &Manner, coverage: &mut Coverage) -> Result<Given, Difference> {
+        let facts = Facts::before(&self.model, call);
+        let mut cases = cases::manner_cases(&self.model, call, manner);
+        let (mut expected, event) = self.model.step(call);
+        let (set, _) = self.real.tag();
+        let outcome = routes::call(&mut self.real, call, manner);
+        let mut answer = outcome.map_err(|text| differs(Kind::Canary, text))?;
+        if let Some(plant) = self.plant {
+            plant.after_call(call, event, (&mut self.real, &mut answer), (&mut self.model, &mut expected));
+        }
+        same(Kind::Number, "number", answer.number, expected.number, "the model")?;
+        same(Kind::Value, "value", answer.value, expected.value, "the model")?;
+        same(Kind::Mark, "mark", answer.mark, expected.mark, "the model")?;
+        let deed = Deed::Call(*call);
+        if !coverage::in_table(&deed, answer.number) {
+            return Err(differs(Kind::Table, format!("01 has no number {} for this call", answer.number)));
+        }
+        self.same_tag(set)?;
+        self.same_buffers(answer.number != 0)?;
+        self.same_as_plain(call, &answer, event)?;
+        cases.extend(cases::cases_of(&facts, call, event));
+        coverage.count(self.fresh, &deed, manner.route, answer.number, &cases);
+        Ok(Given::Call(answer, event))
+    }
+
+    /// The canaries, and every buffer against the model's. After a refused call nothing may be other than before it,
+    /// whatever the model says.
+    fn same_buffers(&mut self, refused: bool) -> Check {
+        if let Some(name) = self.real.broken().first() {
+            return Err(differs(Kind::Canary, format!("bytes around {name} were written")));
+        }
+        self.same_board(&self.model, Kind::Buffer, "the model's")?;
+        if refused {
+            self.same_board(&self.kept, Kind::Refused, "the board before this refused call")?;
+        } else {
+            self.kept.slots.copy_from_slice(&self.model.slots);
+            self.kept.words.copy_from_slice(&self.model.words);
+            self.kept.records.copy_from_slice(&self.model.records);
+            self.kept.cache.copy_from_slice(&self.model.cache);
+            self.kept.memory.copy_from_slice(&self.model.memory);
+            self.kept.tag = self.model.tag;
+        }
+        Ok(())
+    }
+
+    fn same_board(&self, board: &Board, kind: Kind, whose: &str) -> Check {
+        same_buffer(kind, "slots", self.real.slots.inner(), &board.slots, whose)?;
+        same_buffer(kind, "words", self.real.words.inner(), &board.words, whose)?;
+        same_buffer(kind, "records", self.real.records.inner(), &board.records, whose)?;
+        same_buffer(kind, "cache", self.real.cache.inner(), &board.cache, whose)?;
+        same_buffer(kind, "memory", self.real.memory.inner(), &board.memory, whose)?;
+        let (set, name) = self.real.tag();
+        same(kind, "a tag is pending", set != 0, board.tag.0, whose)?;
+        same(kind, "the tag's name", name, board.tag.1, whose)
+    }
+
+    /// The tag's set is the very number that went in while it says the same, else 0 or 1.
+    fn same_tag(&self, before: u32) -> Check {
+        let (set, name) = self.real.tag();
+        let pending = self.model.tag.0;
+        let expected = if (before != 0) == pending { before } else { u32::from(pending) };
+        same(Kind::Tag, "the tag's set", set, expected, "the model and the caller's own number")?;
+        same(Kind::Tag, "the tag's name", name, self.model.tag.1, "the model")
+    }
+
+    fn same_as_plain(&mut self, call: &Call, answer: &Answer, event: Event) -> Check {
+        let Some(plain) = &mut self.plain else { return Ok(()) };
+        let mut expected = plain.step(call);
+        if let Some(plant) = self.plant {
+            plant.after_plain(event, &mut expected);
+        }
+        same(Kind::Plain, "number", answer.number, expected.number, "the plain machine")?;
+        same(Kind::Plain, "value", answer.value, expected.value, "the plain machine")
+    }
+
+    // ----- looks -----
+
+    /// The number of a look at this line, by 01, and the places whose records hold it.
+    fn holders(&self, line: u64) -> (u32, Vec<u64>) {
+        if !self.model.fits() {
+            (1, Vec::new())
+        } else if line >= LINES_PER_PAGE * self.model.shape.frames {
+            (2, Vec::new())
+        } else {
+            let holds = |place: &u64| self.model.held(*place).is_some_and(|record| record.line == line);
+            (0, (0..self.model.shape.lines).filter(holds).collect())
+        }
+    }
+
+    /// Looks by a route. Where it is done, the sixteen bytes must stand in the caller's own buffer: in the cache bytes at
+    /// the lowest place that holds the line, else in memory.
+    fn looked(&mut self, line: u64, manner: &Manner) -> Result<Seen, Difference> {
+        let (number, holders) = self.holders(line);
+        let outcome = routes::look(&mut self.real, line, manner);
+        let mut looked = outcome.map_err(|text| differs(Kind::Canary, text))?;
+        if let Some(plant) = self.plant {
+            plant.after_look(&mut self.real, &mut looked);
+        }
+        if let Some(told) = looked.number {
+            same(Kind::Look, "look's number", told, number, "01")?;
+        }
+        let seen = Seen { number, holders: holders.len(), lowest: holders.first().copied(), line };
+        match (looked.bytes, number) {
+            (Some((at, length)), 0) => {
+                let expected = self.bytes_of(&seen);
+                if (at, length) != (expected.as_ptr(), expected.len()) {
+                    let off = (at as usize).wrapping_sub(expected.as_ptr() as usize) as isize;
+                    return Err(differs(Kind::Look, format!("look gives {length} bytes, {off} bytes off their place")));
+                }
+                Ok(seen)
+            }
+            (None, 1..) => Ok(seen),
+            (Some(_), 1..) => Err(differs(Kind::Look, format!("look gives bytes where 01 refuses by {number}"))),
+            (None, 0) => Err(differs(Kind::Look, "look gives no bytes where 01 does")),
+        }
+    }
+
+    /// The bytes of a physical line that is seen, on the library's board.
+    fn bytes_of(&self, seen: &Seen) -> &[u8] {
+        let (bytes, index) = match seen.lowest {
+            Some(place) => (self.real.cache.inner(), place),
+            None => (self.real.memory.inner(), seen.line),
+        };
+        &bytes[(index * LINE_BYTES) as usize..][..LINE_BYTES as usize]
+    }
+
+    fn look(&mut self, line: u64, manner: &Manner, coverage: &mut Coverage) -> Result<Given, Difference> {
+        let seen = self.looked(line, manner)?;
+        let (number, bytes) = self.model.look(line);
+        same(Kind::Look, "look's number", seen.number, number, "the model")?;
+        let mut cases = Vec::new();
+        if number == 0 {
+            same_buffer(Kind::Look, "look's bytes", self.bytes_of(&seen), &bytes, "the model's")?;
+            cases = cases::look_cases(seen.holders);
+        }
+        self.same_buffers(true)?;
+        coverage.count(self.fresh, &Deed::Look { line }, manner.route, number, &cases);
+        Ok(Given::Look(number))
+    }
+
+    fn look_number(&mut self, line: u64, manner: &Manner, coverage: &mut Coverage) -> Result<Given, Difference> {
+        let outcome = routes::look_number(&mut self.real, line, manner);
+        let mut number = outcome.map_err(|text| differs(Kind::Canary, text))?;
+        if let Some(plant) = self.plant {
+            plant.after_look_number(&mut number);
+        }
+        same(Kind::Look, "look's number", number, self.model.look(line).0, "the model")?;
+        self.same_buffers(true)?;
+        coverage.count(self.fresh, &Deed::LookNumber { line }, manner.route, number, &[]);
+        Ok(Given::Look(number))
+    }
+
+    /// Demand 2 at a moment: look shows the plain machine's memory at every physical line. Demand 3 at a moment: no two held
+    /// lines are copies of one physical line. On a large board, only some lines are looked at.
+    fn audit(&mut self, manner: &Manner, coverage: &mut Coverage) -> Result<Given, Difference> {
+        let Some(mut plain) = self.plain.clone() else { return Ok(Given::Audit) };
+        if !self.model.fits() {
+            return Ok(Given::Audit);
+        }
+        let places = 0..self.model.shape.lines;
+        let mut held: Vec<(u64, Record)> =
+            places.filter_map(|place| self.model.held(place).map(|record| (record.line, record))).collect();
+        if let Some(plant) = self.plant {
+            plant.before_audit(&mut plain, &mut held);
+        }
+        held.sort_unstable_by_key(|(line, _)| *line);
+        if let Some(pair) = held.windows(2).find(|pair| pair[0].0 == pair[1].0) {
+            let (line, first, second) = (pair[0].0, pair[0].1.name, pair[1].1.name);
+            let text = format!("physical line {line:#x} is held twice, under the names {first:#x} and {second:#x}");
+            return Err(differs(Kind::TwoCopies, text));
+        }
+        let stride = if self.model.shape.lines > 512 { 61 } else { 1 };
+        for line in (0..LINES_PER_PAGE * self.model.shape.frames).step_by(stride) {
+            let seen = self.looked(line, manner)?;
+            let expected = &plain.memory[(line * LINE_BYTES) as usize..][..LINE_BYTES as usize];
+            let shown = self.bytes_of(&seen);
+            same_buffer(Kind::Plain, "look's bytes", shown, expected, "the plain machine's memory")
+                .map_err(|d| Difference { text: format!("physical line {line:#x}, {}", d.text), ..d })?;
+            coverage.audit_looks += 1;
+        }
+        self.same_buffers(true)?;
+        coverage.audits += 1;
+        Ok(Given::Audit)
+    }
+
+    /// The plain machine's memory, of a run from a fresh board.
+    pub fn flat_memory(&self) -> &[u8] {
+        self.plain.as_ref().map_or(&[], |plain| &plain.memory)
+    }
+}
+
+/// Does something that may panic on purpose, or again and again, without the panics' own messages: a difference has them.
+pub fn quietly<T>(work: impl FnOnce() -> T) -> T {
+    let hook = std::panic::take_hook();
+    std::panic::set_hook(Box::new(|_| {}));
+    let result = work();
+    std::panic::set_hook(hook);
+    result
+}
+
+/// Runs a trace from its start; gives where and how it first differs.
+pub fn first_difference(trace: &Trace) -> Option<(usize, Difference)> {
+    let mut run = Run::new(&trace.start, trace.plant);
+    let mut unused = Coverage::new();
+    let outcomes = trace.steps.iter().map(|step| run.step(step, &mut unused));
+    outcomes.enumerate().find_map(|(index, outcome)| outcome.err().map(|difference| (index, difference)))
+}

@@ -1,0 +1,132 @@
+//! Shows that the test can fail: each planted fault is found, shrinks to a short trace, and the trace, written and read back,
+//! gives the same difference, and none without the fault. And each thing to be reached is missed if it is not reached.
+
+use crate::coverage::Coverage;
+use crate::guarded::Real;
+use crate::pairs::{self, Failure};
+use crate::plant::{Plant, PLANTS};
+use crate::rng::Rng;
+use crate::run::{first_difference, quietly, Difference, Kind};
+use crate::shrink::{self, Fails};
+use crate::trace::{self, Trace};
+use crate::{apart, routes, search};
+use model::{Board, Shape};
+
+/// Calls within which a planted fault must be found.
+const CALLS: u64 = 40_000;
+
+/// Steps to which it must shrink.
+const STEPS: usize = 8;
+
+pub fn all() -> Result<(), String> {
+    for (plant, name) in PLANTS {
+        let (found, left) =
+            quietly(|| planted(plant)).map_err(|problem| format!("planted fault '{name}': {problem}"))?;
+        println!("planted fault {name:13} found at step {found:3} of its run, shrunk to {left} steps, replayed");
+    }
+    planted_pair()?;
+    println!("planted fault in a pair of runs found");
+    canaries()?;
+    println!("each canary, changed, is named");
+    let required = unreached()?;
+    println!("each of {required} things to reach is missed if it is not reached");
+    println!("hostile: self-test passed");
+    Ok(())
+}
+
+/// Gives at which step the fault was found, and how many steps were left.
+fn planted(plant: Plant) -> Result<(usize, usize), String> {
+    let find = || search(&mut Rng::new(7), CALLS, Some(plant), &mut Coverage::new());
+    let (fails, (trace, difference)): (Fails, _) = if plant.found_as() == Kind::Signal {
+        (apart::ended_by_signal, recorded(find)?)
+    } else {
+        match find() {
+            Err(Failure::Run(trace, difference)) => (first_difference, (*trace, difference)),
+            Err(Failure::Apart(_, text)) => return Err(format!("found in a pair only: {text}")),
+            Ok(()) => return Err("not found".into()),
+        }
+    };
+    if difference.kind != plant.found_as() {
+        return Err(format!("found as another fault: {difference:?}"));
+    }
+    let found = trace.steps.len();
+    let (small, difference) = shrink::shrink(fails, trace, difference);
+    let left = small.steps.len();
+    if left > STEPS {
+        return Err(format!("shrunk to {left} steps only"));
+    }
+    let text = trace::to_text(&small);
+    let read = trace::from_text(&text).map_err(|problem| format!("its trace cannot be read: {problem}"))?;
+    if trace::to_text(&read) != text {
+        return Err("its trace changes when it is read and written".into());
+    }
+    match fails(&read) {
+        Some((_, again)) if again == difference => {}
+        other => return Err(format!("{difference:?} before, {other:?} when its trace is replayed")),
+    }
+    match fails(&Trace { plant: None, ..read }) {
+        None => Ok((found, left)),
+        Some((_, other)) => Err(format!("its trace fails without the fault too: {}", other.text)),
+    }
+}
+
+/// The trace of a run that a signal ends.
+fn recorded(find: impl FnOnce() -> Result<(), Failure>) -> Result<(Trace, Difference), String> {
+    let file = std::env::temp_dir().join(format!("hostile-{}.txt", std::process::id()));
+    let file = file.to_str().ok_or("the folder for temporary files has no name in plain text")?;
+    let found = apart::recorded(file, || i32::from(find().is_err()));
+    std::fs::remove_file(file).map_err(|error| format!("cannot remove {file}: {error}"))?;
+    found
+}
+
+fn planted_pair() -> Result<(), String> {
+    match pairs::pair(&mut Rng::new(7), &mut Coverage::new(), true) {
+        Err(Failure::Apart(..)) => Ok(()),
+        _ => Err("planted fault in a pair of runs: not found".into()),
+    }
+}
+
+/// Each canary that is changed must be named alone: those of the buffers, those of the tag, the C board's.
+fn canaries() -> Result<(), String> {
+    let board = Board::fresh(Shape { frames: 1, uncached: 0, processes: 1, lines: 1 });
+    type Change = fn(&mut Real, bool);
+    let breaks: [(&str, Change); 7] = [
+        ("slots", |real, before| real.slots.break_canary(before)),
+        ("words", |real, before| real.words.break_canary(before)),
+        ("records", |real, before| real.records.break_canary(before)),
+        ("cache", |real, before| real.cache.break_canary(before)),
+        ("memory", |real, before| real.memory.break_canary(before)),
+        ("the tag's set", |real, before| real.set.break_canary(before)),
+        ("the tag's name", |real, before| real.name.break_canary(before)),
+    ];
+    for ((name, change), before) in breaks.iter().flat_map(|entry| [(entry, false), (entry, true)]) {
+        let mut real = Real::of(&board, &[0, 1, 2, 3, 15]);
+        change(&mut real, before);
+        if real.broken() != [*name] {
+            return Err(format!("a changed canary of {name} is not named alone"));
+        }
+    }
+    let mut real = Real::of(&board, &[0; 5]);
+    if !real.broken().is_empty() || !routes::cage_shows(&mut real) {
+        return Err("canaries show what is not, or the C board's don't show what is".into());
+    }
+    Ok(())
+}
+
+/// Each thing to be reached, left out alone, must be named alone.
+fn unreached() -> Result<usize, String> {
+    let mut full = Coverage::new();
+    full.set_required(1);
+    if !full.problems().is_empty() {
+        return Err("a full coverage has problems".into());
+    }
+    let names: Vec<String> = full.required().into_iter().map(|(name, _)| name).collect();
+    for (index, name) in names.iter().enumerate() {
+        let mut coverage = full.clone();
+        *coverage.required()[index].1 = 0;
+        if coverage.problems() != [format!("not reached: {name}")] {
+            return Err(format!("not missed when it is not reached: {name}"));
+        }
+    }
+    Ok(names.len())
+}

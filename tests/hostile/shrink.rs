@@ -1,0 +1,114 @@
+//! Makes a failing trace small: drops steps by halves and then one by one, then simplifies how calls are brought, then zeroes
+//! the first board piece by piece, all while it still fails in the same way.
+
+use crate::routes::{Manner, Route};
+use crate::run::{quietly, Difference};
+use crate::trace::Trace;
+use model::{Board, NO_TAG};
+
+/// At most so many runs are spent.
+const BUDGET: u32 = 3000;
+
+/// Where a trace first differs, and how.
+pub type Fails = fn(&Trace) -> Option<(usize, Difference)>;
+
+struct Shrinker {
+    fails: Fails,
+    best: Trace,
+    difference: Difference,
+    budget: u32,
+}
+
+pub fn shrink(fails: Fails, trace: Trace, difference: Difference) -> (Trace, Difference) {
+    let mut shrinker = Shrinker { fails, best: trace, difference, budget: BUDGET };
+    quietly(|| {
+        shrinker.drop_steps();
+        shrinker.simplify_manners();
+        shrinker.zero_board();
+        shrinker.drop_steps();
+    });
+    (shrinker.best, shrinker.difference)
+}
+
+impl Shrinker {
+    /// Takes the edited trace if it fails in the same way.
+    fn takes(&mut self, edit: impl FnOnce(&mut Trace)) -> bool {
+        if self.budget == 0 {
+            return false;
+        }
+        self.budget -= 1;
+        let mut candidate = self.best.clone();
+        edit(&mut candidate);
+        match (self.fails)(&candidate) {
+            Some((last, difference)) if difference.kind == self.difference.kind => {
+                candidate.steps.truncate(last + 1);
+                self.best = candidate;
+                self.difference = difference;
+                true
+            }
+            _ => false,
+        }
+    }
+
+    fn drop_steps(&mut self) {
+        let mut size = self.best.steps.len().max(1);
+        loop {
+            let before = self.best.steps.len();
+            let mut at = 0;
+            while at < self.best.steps.len() {
+                let end = (at + size).min(self.best.steps.len());
+                if !self.takes(|trace| drop(trace.steps.drain(at..end))) {
+                    at = end;
+                }
+            }
+            if size > 1 {
+                size = size.div_ceil(2);
+            } else if self.best.steps.len() == before {
+                break;
+            }
+        }
+    }
+
+    fn simplify_manners(&mut self) {
+        for index in 0..self.best.steps.len() {
+            if index >= self.best.steps.len() {
+                break;
+            }
+            let edits: [fn(&mut Manner); 3] =
+                [|manner| manner.route = Route::Raw, |manner| manner.yes = 1, |manner| manner.null = false];
+            for edit in edits {
+                self.takes(|trace| edit(&mut trace.steps[index].manner));
+                if index >= self.best.steps.len() {
+                    break;
+                }
+            }
+        }
+    }
+
+    fn zero_board(&mut self) {
+        self.takes(|trace| trace.start.offsets = [0; 5]);
+        self.takes(|trace| trace.start.board.tag = NO_TAG);
+        self.zero_buffer(|board| &mut board.memory);
+        self.zero_buffer(|board| &mut board.cache);
+        self.zero_buffer(|board| &mut board.slots);
+        self.zero_buffer(|board| &mut board.records);
+        self.zero_buffer(|board| &mut board.words);
+    }
+
+    /// Zeroes the whole buffer, or else its halves, and so on.
+    fn zero_buffer<T: Clone + Default + PartialEq>(&mut self, buffer: fn(&mut Board) -> &mut Vec<T>) {
+        let whole = 0..buffer(&mut self.best.start.board).len();
+        let mut parts = Vec::from([whole]);
+        while let Some(part) = parts.pop() {
+            let now = &buffer(&mut self.best.start.board)[part.clone()];
+            if now.iter().all(|element| *element == T::default()) {
+                continue;
+            }
+            let zeroed = self.takes(|trace| buffer(&mut trace.start.board)[part.clone()].fill(T::default()));
+            if !zeroed && part.len() > 1 {
+                let middle = part.start + part.len() / 2;
+                parts.extend([part.start..middle, middle..part.end]);
+            }
+        }
+    }
+}

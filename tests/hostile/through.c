@@ -1,0 +1,75 @@
+/* The route through the C header: each call of the library once, on a board as include/oaledva.h declares it. The test in
+ * main.rs calls these; they add nothing of their own. */
+#include "oaledva.h"
+
+typedef struct through_answer {
+    uint32_t number, mark, value;
+} through_answer;
+
+static through_answer unpacked(uint64_t answer) {
+    through_answer parts = {oaledva_number(answer), oaledva_mark(answer), oaledva_value(answer)};
+    return parts;
+}
+
+/* What the test's mirror of oaledva_board, and its lengths, must agree with. */
+size_t through_board_bytes(void) { return sizeof(oaledva_board); }
+
+void through_lengths(size_t frames, size_t processes, size_t lines, size_t lengths[5]) {
+    lengths[0] = OALEDVA_SLOTS(processes);
+    lengths[1] = OALEDVA_WORDS(frames);
+    lengths[2] = OALEDVA_RECORDS(lines);
+    lengths[3] = OALEDVA_CACHE(lines);
+    lengths[4] = OALEDVA_MEMORY(frames);
+}
+
+through_answer through_user_access(oaledva_board *b, size_t process, uint32_t store, uint32_t width, uint32_t address,
+                                   uint32_t value) {
+    return unpacked(
+        oaledva_user_access(OALEDVA_LEND(*b), b->set, b->name, process, store, width, address, value));
+}
+
+through_answer through_supervisor_access(oaledva_board *b, uint32_t store, uint32_t width, uint64_t address,
+                                         uint32_t value) {
+    return unpacked(oaledva_supervisor_access(OALEDVA_LEND(*b), b->set, b->name, store, width, address, value));
+}
+
+through_answer through_attach(oaledva_board *b, size_t process, size_t slot, uint64_t segment, uint32_t write) {
+    return unpacked(oaledva_attach(OALEDVA_LEND(*b), process, slot, segment, write));
+}
+
+through_answer through_detach(oaledva_board *b, size_t process, size_t slot) {
+    return unpacked(oaledva_detach(OALEDVA_LEND(*b), process, slot));
+}
+
+through_answer through_map(oaledva_board *b, uint64_t page, size_t frame, uint32_t write) {
+    return unpacked(oaledva_map(OALEDVA_LEND(*b), page, frame, write));
+}
+
+through_answer through_unmap(oaledva_board *b, uint64_t page) {
+    return unpacked(oaledva_unmap(OALEDVA_LEND(*b), page));
+}
+
+through_answer through_protect(oaledva_board *b, uint64_t page, uint32_t write) {
+    return unpacked(oaledva_protect(OALEDVA_LEND(*b), page, write));
+}
+
+through_answer through_flush_all(oaledva_board *b) { return unpacked(oaledva_flush_all(OALEDVA_LEND(*b))); }
+
+through_answer through_tag(oaledva_board *b, uint64_t line) {
+    return unpacked(oaledva_tag(OALEDVA_LEND(*b), OALEDVA_TAG_OF(*b), line));
+}
+
+through_answer through_load_and_map(oaledva_board *b, size_t line) {
+    return unpacked(oaledva_load_and_map(OALEDVA_LEND(*b), OALEDVA_TAG_OF(*b), line));
+}
+
+through_answer through_drop_tag(oaledva_board *b) {
+    return unpacked(oaledva_drop_tag(OALEDVA_LEND(*b), OALEDVA_TAG_OF(*b)));
+}
+
+/* Where the bytes stand; NULL where look is refused. */
+const uint8_t *through_look(oaledva_board *b, size_t line) {
+    return oaledva_bytes_at(b->cache, b->memory, oaledva_look(OALEDVA_LEND(*b), line));
+}
+
+uint32_t through_look_number(oaledva_board *b, size_t line) { return oaledva_look_number(OALEDVA_LEND(*b), line); }

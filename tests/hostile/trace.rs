@@ -1,0 +1,266 @@
+//! A run as data: the board it starts on, then what is done. It is written as lines of text and read back from them.
+
+use crate::plant::{self, Plant};
+use crate::routes::{Manner, ROUTES};
+use model::{Board, Call, Shape};
+use std::fmt::Write;
+
+#[derive(Clone)]
+pub struct Start {
+    /// A fresh board: the plain machine runs beside it.
+    pub fresh: bool,
+    pub board: Board,
+    /// By how many elements each buffer's start is moved: slots, words, records, cache, memory.
+    pub offsets: [usize; 5],
+}
+
+#[derive(Clone, Copy, Debug, PartialEq, Eq)]
+pub enum Deed {
+    Call(Call),
+    Look {
+        line: u64,
+    },
+    LookNumber {
+        line: u64,
+    },
+    /// Looks at every physical line and compares with the plain machine's memory; asks for two copies of a line.
+    Audit,
+}
+
+#[derive(Clone, Copy, Debug, PartialEq, Eq)]
+pub struct Step {
+    pub deed: Deed,
+    pub manner: Manner,
+}
+
+#[derive(Clone)]
+pub struct Trace {
+    pub start: Start,
+    pub steps: Vec<Step>,
+    pub plant: Option<Plant>,
+}
+
+// ----- deeds in words -----
+
+/// A deed's name and its arguments, flags as 0 and 1.
+fn parts(deed: &Deed) -> (&'static str, Vec<(&'static str, u64)>) {
+    match *deed {
+        Deed::Call(Call::UserAccess { process, store, width, address, value }) => (
+            "user-access",
+            vec![
+                ("process", process),
+                ("store", store.into()),
+                ("width", width.into()),
+                ("address", address.into()),
+                ("value", value.into()),
+            ],
+        ),
+        Deed::Call(Call::SupervisorAccess { store, width, global, value }) => (
+            "supervisor-access",
+            vec![("store", store.into()), ("width", width.into()), ("global", global), ("value", value.into())],
+        ),
+        Deed::Call(Call::Attach { process, slot, segment, write }) => {
+            ("attach", vec![("process", process), ("slot", slot), ("segment", segment), ("write", write.into())])
+        }
+        Deed::Call(Call::Detach { process, slot }) => ("detach", vec![("process", process), ("slot", slot)]),
+        Deed::Call(Call::Map { page, frame, write }) => {
+            ("map", vec![("page", page), ("frame", frame), ("write", write.into())])
+        }
+        Deed::Call(Call::Unmap { page }) => ("unmap", vec![("page", page)]),
+        Deed::Call(Call::Protect { page, write }) => ("protect", vec![("page", page), ("write", write.into())]),
+        Deed::Call(Call::FlushAll) => ("flush-all", vec![]),
+        Deed::Call(Call::Tag { name }) => ("tag", vec![("name", name)]),
+        Deed::Call(Call::LoadAndMap { line }) => ("load-and-map", vec![("line", line)]),
+        Deed::Call(Call::DropTag) => ("drop-tag", vec![]),
+        Deed::Look { line } => ("look", vec![("line", line)]),
+        Deed::LookNumber { line } => ("look-number", vec![("line", line)]),
+        Deed::Audit => ("audit", vec![]),
+    }
+}
+
+fn deed_of(name: &str, arguments: &Arguments) -> Result<Deed, String> {
+    let get = |key| arguments.number(key);
+    let short = |key| get(key).and_then(|n| u32::try_from(n).map_err(|_| format!("{key} has more than 32 bits")));
+    let flag = |key| get(key).map(|n| n != 0);
+    Ok(match name {
+        "user-access" => Deed::Call(Call::UserAccess {
+            process: get("process")?,
+            store: flag("store")?,
+            width: short("width")?,
+            address: short("address")?,
+            value: short("value")?,
+        }),
+        "supervisor-access" => Deed::Call(Call::SupervisorAccess {
+            store: flag("store")?,
+            width: short("width")?,
+            global: get("global")?,
+            value: short("value")?,
+        }),
+        "attach" => Deed::Call(Call::Attach {
+            process: get("process")?,
+            slot: get("slot")?,
+            segment: get("segment")?,
+            write: flag("write")?,
+        }),
+        "detach" => Deed::Call(Call::Detach { process: get("process")?, slot: get("slot")? }),
+        "map" => Deed::Call(Call::Map { page: get("page")?, frame: get("frame")?, write: flag("write")? }),
+        "unmap" => Deed::Call(Call::Unmap { page: get("page")? }),
+        "protect" => Deed::Call(Call::Protect { page: get("page")?, write: flag("write")? }),
+        "flush-all" => Deed::Call(Call::FlushAll),
+        "tag" => Deed::Call(Call::Tag { name: get("name")? }),
+        "load-and-map" => Deed::Call(Call::LoadAndMap { line: get("line")? }),
+        "drop-tag" => Deed::Call(Call::DropTag),
+        "look" => Deed::Look { line: get("line")? },
+        "look-number" => Deed::LookNumber { line: get("line")? },
+        "audit" => Deed::Audit,
+        other => return Err(format!("no call is named '{other}'")),
+    })
+}
+
+/// A step in one line, as the trace has it.
+pub fn step_text(step: &Step) -> String {
+    let Manner { route, yes, null } = step.manner;
+    let (name, arguments) = parts(&step.deed);
+    let mut text = format!("step {} yes={yes:#x} null={} {name}", name_of(&ROUTES, route), u32::from(null));
+    for (key, value) in arguments {
+        write!(text, " {key}={value:#x}").expect("text grows");
+    }
+    text
+}
+
+/// The name that a table gives to a value.
+pub fn name_of<T: PartialEq>(table: &[(T, &'static str)], value: T) -> &'static str {
+    table.iter().find(|(entry, _)| *entry == value).expect("every value has a name").1
+}
+
+/// The value that a table has under a name.
+pub fn value_of<T: Copy>(table: &[(T, &str)], name: &str) -> Result<T, String> {
+    table.iter().find(|(_, entry)| *entry == name).map(|&(value, _)| value).ok_or(format!("unknown name '{name}'"))
+}
+
+// ----- writing -----
+
+/// The trace as text. Buffers show only what is not 0, as runs: index, then the elements.
+pub fn to_text(trace: &Trace) -> String {
+    let Start { fresh, board, offsets } = &trace.start;
+    let Shape { frames, uncached, processes, lines } = board.shape;
+    let mut text = String::new();
+    if let Some(plant) = trace.plant {
+        writeln!(text, "plant {}", name_of(&plant::PLANTS, plant)).expect("text grows");
+    }
+    let head = [
+        format!("fresh {}", u32::from(*fresh)),
+        format!("shape frames={frames:#x} uncached={uncached:#x} processes={processes:#x} lines={lines:#x}"),
+        format!("offsets {}", offsets.map(|offset| offset.to_string()).join(" ")),
+        format!("tag set={} name={:#x}", u32::from(board.tag.0), board.tag.1),
+        buffer_text("slots", board.slots.iter().map(|&word| word.into())),
+        buffer_text("words", board.words.iter().copied()),
+        buffer_text("records", board.records.iter().copied()),
+        buffer_text("cache", board.cache.iter().map(|&byte| byte.into())),
+        buffer_text("memory", board.memory.iter().map(|&byte| byte.into())),
+    ];
+    for line in head.into_iter().chain(trace.steps.iter().map(step_text)) {
+        text.push_str(&line);
+        text.push('\n');
+    }
+    text
+}
+
+fn buffer_text(name: &str, elements: impl ExactSizeIterator<Item = u64>) -> String {
+    let mut text = format!("{name} {}", elements.len());
+    let mut in_run = false;
+    for (index, element) in elements.enumerate() {
+        if element != 0 {
+            let start = if in_run { ",".to_string() } else { format!(" {index}:") };
+            write!(text, "{start}{element:x}").expect("text grows");
+        }
+        in_run = element != 0;
+    }
+    text
+}
+
+// ----- reading -----
+
+/// The `key=value` words of a line.
+struct Arguments<'a>(Vec<(&'a str, &'a str)>);
+
+impl<'a> Arguments<'a> {
+    fn of(words: &[&'a str]) -> Arguments<'a> {
+        Arguments(words.iter().filter_map(|word| word.split_once('=')).collect())
+    }
+
+    fn number(&self, key: &str) -> Result<u64, String> {
+        let found = self.0.iter().find(|(name, _)| *name == key);
+        number(found.ok_or(format!("'{key}=' is missing"))?.1)
+    }
+}
+
+pub fn number(text: &str) -> Result<u64, String> {
+    let parsed = match text.strip_prefix("0x") {
+        Some(digits) => u64::from_str_radix(digits, 16),
+        None => text.parse(),
+    };
+    parsed.map_err(|_| format!("'{text}' is no number"))
+}
+
+pub fn from_text(text: &str) -> Result<Trace, String> {
+    let nothing = Shape { frames: 0, uncached: 0, processes: 0, lines: 0 };
+    let start = Start { fresh: false, board: Board::fresh(nothing), offsets: [0; 5] };
+    let mut trace = Trace { start, steps: Vec::new(), plant: None };
+    for (index, line) in text.lines().enumerate() {
+        let words: Vec<&str> = line.split_whitespace().collect();
+        if !words.is_empty() && !line.starts_with('#') {
+            read_line(&mut trace, &words).map_err(|problem| format!("line {}: {problem}", index + 1))?;
+        }
+    }
+    Ok(trace)
+}
+
+fn read_line(trace: &mut Trace, words: &[&str]) -> Result<(), String> {
+    let arguments = Arguments::of(words);
+    let second = *words.get(1).ok_or("the line has one word only")?;
+    let Start { fresh, board, offsets } = &mut trace.start;
+    match words[0] {
+        "plant" => trace.plant = Some(value_of(&plant::PLANTS, second)?),
+        "fresh" => *fresh = number(second)? != 0,
+        "shape" => {
+            let get = |key| arguments.number(key);
+            let (frames, uncached) = (get("frames")?, get("uncached")?);
+            board.shape = Shape { frames, uncached, processes: get("processes")?, lines: get("lines")? };
+        }
+        "offsets" => {
+            let read: Result<Vec<u64>, String> = words[1..].iter().map(|word| number(word)).collect();
+            let read: [u64; 5] = read?.try_into().map_err(|_| "there must be five offsets")?;
+            *offsets = read.map(|offset| offset as usize);
+        }
+        "tag" => board.tag = (arguments.number("set")? != 0, arguments.number("name")?),
+        "slots" => board.slots = read_buffer(&words[1..])?,
+        "words" => board.words = read_buffer(&words[1..])?,
+        "records" => board.records = read_buffer(&words[1..])?,
+        "cache" => board.cache = read_buffer(&words[1..])?,
+        "memory" => board.memory = read_buffer(&words[1..])?,
+        "step" => {
+            let name = words.iter().skip(2).find(|word| !word.contains('=')).ok_or("the step has no call")?;
+            let yes = u32::try_from(arguments.number("yes")?).map_err(|_| "yes has more than 32 bits")?;
+            let manner = Manner { route: value_of(&ROUTES, second)?, yes, null: arguments.number("null")? != 0 };
+            trace.steps.push(Step { deed: deed_of(name, &arguments)?, manner });
+        }
+        other => return Err(format!("unknown word '{other}'")),
+    }
+    Ok(())
+}
+
+/// A buffer's length, then its runs.
+fn read_buffer<T: TryFrom<u64> + Clone + Default>(words: &[&str]) -> Result<Vec<T>, String> {
+    let mut buffer = vec![T::default(); number(words[0])? as usize];
+    for run in &words[1..] {
+        let (first, elements) = run.split_once(':').ok_or(format!("'{run}' is no run"))?;
+        let first = number(first)? as usize;
+        for (index, element) in elements.split(',').enumerate() {
+            let value = u64::from_str_radix(element, 16).map_err(|_| format!("'{element}' is no hex number"))?;
+            let place = buffer.get_mut(first + index).ok_or("a run goes past the buffer's end")?;
+            *place = T::try_from(value).map_err(|_| format!("'{element}' is too large for its buffer"))?;
+        }
+    }
+    Ok(buffer)
+}

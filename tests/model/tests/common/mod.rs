@@ -1,0 +1,96 @@
+#![allow(dead_code)]
+use model::*;
+
+/// A small xorshift generator with a fixed seed.
+pub struct Rng(pub u64);
+
+impl Rng {
+    pub fn next(&mut self) -> u64 {
+        self.0 ^= self.0 << 13;
+        self.0 ^= self.0 >> 7;
+        self.0 ^= self.0 << 17;
+        self.0.wrapping_mul(0x2545_F491_4F6C_DD1D)
+    }
+    pub fn below(&mut self, n: u64) -> u64 {
+        (self.next() >> 16) % n
+    }
+    pub fn chance(&mut self, one_in: u64) -> bool {
+        self.below(one_in) == 0
+    }
+    pub fn flip(&mut self) -> bool {
+        self.chance(2)
+    }
+    pub fn pick<T: Copy>(&mut self, of: &[T]) -> T {
+        of[self.below(of.len() as u64) as usize]
+    }
+}
+
+pub fn shape(frames: u64, uncached: u64, processes: u64, lines: u64) -> Shape {
+    Shape { frames, uncached, processes, lines }
+}
+
+pub fn done(value: u32, mark: u32) -> Answer {
+    Answer { number: 0, value, mark }
+}
+
+pub fn no(number: u32) -> Answer {
+    Answer { number, value: 0, mark: 0 }
+}
+
+/// Puts a record at a place, whatever it is.
+pub fn put(board: &mut Board, place: u64, record: Record) {
+    let (a, b) = record.encode();
+    board.records[2 * place as usize] = a;
+    board.records[2 * place as usize + 1] = b;
+}
+
+pub fn rec(name: u64, line: u64, changed: bool, write: bool) -> Record {
+    Record { name, line, changed, write, valid: true }
+}
+
+/// Fills a line of the cache with one byte.
+pub fn paint(board: &mut Board, place: u64, byte: u8) {
+    let at = 16 * place as usize;
+    board.cache[at..at + 16].fill(byte);
+}
+
+/// One call of each kind, each of which is done on `ready()`.
+pub fn every_call() -> Vec<Call> {
+    vec![
+        Call::UserAccess { process: 0, store: false, width: 1, address: 0, value: 0 },
+        Call::UserAccess { process: 0, store: true, width: 4, address: 0, value: 7 },
+        Call::SupervisorAccess { store: false, width: 1, global: 0x2_0000_0000, value: 0 },
+        Call::SupervisorAccess { store: true, width: 2, global: 0x1_0000_2000, value: 9 },
+        Call::SupervisorAccess { store: true, width: 4, global: 0, value: 9 },
+        Call::Attach { process: 1, slot: 3, segment: 2048, write: true },
+        Call::Detach { process: 0, slot: 0 },
+        Call::Map { page: 0x20_0001, frame: 2, write: true },
+        Call::Unmap { page: 0x20_0000 },
+        Call::Protect { page: 0x20_0000, write: false },
+        Call::FlushAll,
+        Call::Tag { name: 0x2000_0000 },
+        Call::LoadAndMap { line: 256 },
+        Call::DropTag,
+    ]
+}
+
+/// F 4, U 1, P 2, L 2; page 0x200000 in frame 1 writable; process 0 slot 0: segment 2048 writable.
+/// Memory is not all zero.
+pub fn ready() -> Board {
+    let mut b = Board::fresh(shape(4, 1, 2, 2));
+    for (i, byte) in b.memory.iter_mut().enumerate() {
+        *byte = (i % 251) as u8;
+    }
+    assert_eq!(b.map(0x20_0000, 1, true), done(0, 0));
+    assert_eq!(b.attach(0, 0, 2048, true), done(0, 0));
+    b
+}
+
+/// `ready()`, with a tag pending if the call needs one.
+pub fn ready_for(call: &Call) -> Board {
+    let mut b = ready();
+    if matches!(call, Call::LoadAndMap { .. } | Call::DropTag) {
+        assert_eq!(b.tag(0x2000_0000), done(0, 0));
+    }
+    b
+}

@@ -1,0 +1,141 @@
+//! 01's "Numbers to check" and the limits.
+mod common;
+use common::*;
+use model::*;
+
+#[test]
+fn p1_translation() {
+    assert_eq!(slot_of(0x0040_1234), 1);
+    let global = global_of(0x12345, offset_of(0x0040_1234));
+    assert_eq!(global, 0x048_D140_1234);
+    assert_eq!(page_of(global), 0x048D_1401);
+    // The same by calls: the byte lands at that global address.
+    let mut b = Board::fresh(shape(2, 0, 1, 4));
+    assert_eq!(b.map(0x048D_1401, 1, true), done(0, 0));
+    assert_eq!(b.attach(0, 1, 0x12345, true), done(0, 0));
+    assert_eq!(b.user_access(0, true, 1, 0x0040_1234, 0x5A), done(0, 0));
+    assert_eq!(b.supervisor_access(false, 1, 0x048_D140_1234, 0), done(0x5A, 1));
+    let place = place_of(0x048_D140_123, 4);
+    assert_eq!(b.record(place), rec(0x048_D140_123, 256 + 0x23, true, true));
+}
+
+#[test]
+fn p2_p3_p4_entries() {
+    assert_eq!(entry_of(0x048D_1401), 0xFFC_1234_5004);
+    let page = page_of(0xFFC_1234_5004) as u32;
+    assert_eq!(entry_of(page), 0xFFF_FF04_8D14);
+    assert_eq!(entry_of(0xFFFF_FFFF), 0xFFF_FFFF_FFFC);
+}
+
+#[test]
+fn p5_to_p9_regions() {
+    assert_eq!(kind_of(0x000_FFFF_FFFF), Kind::Uncached(0xFFFF_FFFF));
+    assert_eq!(kind_of(0x001_0000_0000), Kind::Cached(0));
+    assert_eq!(kind_of(0x001_FFFF_FFFF), Kind::Cached(0xFFFF_FFFF));
+    assert_eq!(kind_of(0x002_0000_0000), Kind::Ordinary);
+    assert_eq!(kind_of(0xFFB_FFFF_FFFF), Kind::Ordinary);
+    assert_eq!(kind_of(0xFFC_0000_0000), Kind::PageTable);
+    assert_eq!(kind_of(0xFFF_FFFF_FFFF), Kind::PageTable);
+    // Region ends agree with the ranges of pages, names and segments.
+    assert_eq!(page_of(0x002_0000_0000), PAGE_FIRST);
+    assert_eq!(page_of(0xFFB_FFFF_FFFF), PAGE_LAST);
+    assert_eq!(global_of(SEGMENT_FIRST, 0), 0x002_0000_0000);
+    assert_eq!(global_of(SEGMENT_LAST, (1 << 22) - 1), 0xFFB_FFFF_FFFF);
+    assert!(!name_in_range(0x1FFF_FFFF) && name_in_range(0x2000_0000));
+    assert!(name_in_range(0xFF_BFFF_FFFF) && !name_in_range(0xFF_C000_0000));
+    assert!(name_in_range(0xF_FBFF_FFFF + 1), "beyond the misprinted end");
+    assert!(!name_in_range(u64::MAX) && !page_in_range(u64::MAX) && !segment_in_range(u64::MAX));
+}
+
+#[test]
+fn p10_p11_segments() {
+    for (segment, number) in [
+        (2047, 2),
+        (2048, 0),
+        (4_190_207, 0),
+        (4_190_208, 2),
+        (0, 2),
+        (1 << 22, 2),
+        (u64::MAX, 2),
+        ((1 << 32) + 2048, 2),
+    ] {
+        let mut b = ready();
+        assert_eq!(b.attach(0, 5, segment, true), no(number), "{segment}");
+    }
+}
+
+#[test]
+fn p12_user_end() {
+    let mut b = ready();
+    assert_eq!(b.attach(0, 511, 4_190_207, true), done(0, 0));
+    assert_eq!(b.map(0xFFBF_FFFF, 2, true), done(0, 0));
+    assert_eq!(b.user_access(0, true, 1, 0x7FFF_FFFF, 8), done(0, 0));
+    assert_eq!(b.user_access(0, false, 1, 0x7FFF_FFFF, 0), done(8, 1));
+    assert_eq!(b.user_access(0, false, 1, 0x8000_0000, 0), no(5));
+    assert_eq!(b.user_access(0, false, 4, 0xFFFF_FFFC, 0), no(5));
+}
+
+#[test]
+fn width_4_at_2() {
+    let mut b = ready();
+    assert_eq!(b.user_access(0, false, 4, 2, 0), no(4));
+    assert_eq!(b.supervisor_access(false, 4, 2, 0), no(4));
+    assert_eq!(b.user_access(0, false, 2, 2, 0), done(0, 0));
+    for width in [0, 3, 5, 8, u32::MAX] {
+        assert_eq!(b.user_access(0, false, width, 0, 0), no(4));
+        assert_eq!(b.supervisor_access(false, width, 0, 0), no(4));
+    }
+}
+
+#[test]
+fn line_counts() {
+    for (lines, number) in [(0, 1), (1, 0), (2, 0), (3, 1), (6, 1), (16_384, 0), (32_768, 0), (32_769, 1), (65_536, 1)]
+    {
+        let mut b = Board::fresh(shape(2, 1, 1, lines));
+        assert_eq!(b.look(0).0, number, "{lines}");
+        assert_eq!(b.flush_all(), no(number), "{lines}");
+    }
+}
+
+#[test]
+fn largest_cache() {
+    let mut b = Board::fresh(shape(3, 0, 16, 32_768));
+    assert_eq!(b.map(0xFFBF_FFFF, 2, true), done(0, 0));
+    assert_eq!(b.attach(15, 511, 4_190_207, true), done(0, 0));
+    assert_eq!(b.user_access(15, true, 4, 0x7FFF_FFFC, 0x0708_090A), done(0, 0));
+    assert_eq!(b.record(32_767), rec(0xFF_BFFF_FFFF, 2 * 256 + 255, true, true));
+    assert_eq!(b.look(2 * 256 + 255).1[12..], [7, 8, 9, 10]);
+    assert_eq!(b.unmap(0xFFBF_FFFF), done(0, 0));
+    assert_eq!(b.memory[3 * 4096 - 4..], [7, 8, 9, 10]);
+}
+
+#[test]
+fn limits_alone() {
+    let good = shape(4, 1, 2, 2);
+    assert!(limits_hold(&good));
+    for (frames, ok) in [(0, false), (1, true), (1_048_576, true), (1_048_577, false), (u64::MAX, false)] {
+        assert_eq!(limits_hold(&Shape { frames, uncached: 0, ..good }), ok, "F {frames}");
+    }
+    for (uncached, ok) in [(0, true), (4, true), (5, false), (u64::MAX, false)] {
+        assert_eq!(limits_hold(&Shape { uncached, ..good }), ok, "U {uncached}");
+    }
+    for (processes, ok) in [(0, false), (1, true), (16, true), (17, false), (u64::MAX, false)] {
+        assert_eq!(limits_hold(&Shape { processes, ..good }), ok, "P {processes}");
+    }
+    for lines in 0..70_000u64 {
+        let ok = lines <= 32_768 && lines.is_power_of_two();
+        assert_eq!(limits_hold(&Shape { lines, ..good }), ok, "L {lines}");
+    }
+    for lines in [u64::MAX, 1 << 63, 1 << 32] {
+        assert!(!limits_hold(&Shape { lines, ..good }));
+    }
+}
+
+#[test]
+fn record_words() {
+    for second in [0, 1, 2, 4, 7, 8, 4096 * 8 + 5, u64::MAX, u64::MAX - 1] {
+        assert_eq!(Record::decode(99, second).encode(), (99, second));
+    }
+    assert_eq!(rec(5, 3, true, false).encode(), (5, 3 * 8 + 4 + 1));
+    assert_eq!(rec(5, 3, false, true).encode(), (5, 3 * 8 + 2 + 1));
+}

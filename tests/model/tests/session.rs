@@ -1,0 +1,260 @@
+//! 01's session and the shortcuts it names.
+mod common;
+use common::*;
+use model::*;
+use std::fmt::Write;
+
+const TABLE: &str = "call answer value hit
+1 0 0 0
+2 0 0 0
+3 0 0 0
+4 0 50 1
+5 0 0 0
+6 0 50 0
+7 6 0 0
+8 0 0 0
+9 8 0 0
+10 0 0 0
+11 0 0 0
+12 9 0 0
+";
+
+fn calls() -> Vec<Call> {
+    let load = |process, address| Call::UserAccess { process, store: false, width: 1, address, value: 0 };
+    vec![
+        Call::Map { page: 0x20_0000, frame: 1, write: true },
+        Call::Attach { process: 0, slot: 0, segment: 2048, write: true },
+        Call::UserAccess { process: 0, store: true, width: 4, address: 0, value: 50 },
+        load(0, 3),
+        load(0, 32),
+        load(0, 3),
+        load(1, 3),
+        Call::Unmap { page: 0x20_0000 },
+        load(0, 3),
+        Call::Map { page: 0x20_0000, frame: 1, write: false },
+        load(0, 3),
+        Call::UserAccess { process: 0, store: true, width: 1, address: 3, value: 77 },
+    ]
+}
+
+#[test]
+fn session_table_exact() {
+    for byte in [0u8, 0xA5, 0xFF] {
+        let mut board = Board::fresh(shape(4, 1, 2, 2));
+        board.memory.fill(byte);
+        let mut text = String::from("call answer value hit\n");
+        for (i, call) in calls().iter().enumerate() {
+            let (a, _) = board.step(call);
+            writeln!(text, "{} {} {} {}", i + 1, a.number, a.value, a.mark).unwrap();
+        }
+        assert_eq!(text, TABLE);
+    }
+}
+
+#[test]
+fn session_on_the_plain_machine() {
+    let mut board = Board::fresh(shape(4, 1, 2, 2));
+    let mut plain = Plain::of(&board);
+    for call in calls() {
+        let (a, _) = board.step(&call);
+        assert_eq!(plain.step(&call), PlainAnswer { number: a.number, value: a.value });
+    }
+}
+
+#[test]
+fn session_events() {
+    let mut board = Board::fresh(shape(4, 1, 2, 2));
+    let events: Vec<Event> = calls().iter().map(|call| board.step(call).1).collect();
+    assert_eq!(
+        events,
+        vec![
+            Event::Mapped { by_page: 0, by_prefix1: 0 },
+            Event::Done,
+            Event::Miss,
+            Event::Hit,
+            Event::MissWriteBack,
+            Event::Miss,
+            Event::Refused(6),
+            Event::Unmapped { written: 0, dropped: 1 },
+            Event::Refused(8),
+            Event::Mapped { by_page: 0, by_prefix1: 0 },
+            Event::Miss,
+            Event::Refused(9),
+        ]
+    );
+}
+
+/// The board after the session, byte for byte (memory was 0xA5 at first).
+#[test]
+fn session_final_state() {
+    let mut board = Board::fresh(shape(4, 1, 2, 2));
+    board.memory.fill(0xA5);
+    for call in calls() {
+        board.step(&call);
+    }
+    assert_eq!(board.words, vec![0, 0x20_0000 * 4 + 1, 0, 0]);
+    assert_eq!(board.slots[0], 2048 * 2 + 1);
+    assert!(board.slots[1..].iter().all(|&w| w == 0));
+    assert_eq!(board.records, vec![0x2000_0000, 256 * 8 + 1, 0, 0]);
+    assert!(board.cache.iter().all(|&b| b == 0));
+    for (i, &byte) in board.memory.iter().enumerate() {
+        assert_eq!(byte, if i / 4096 == 1 { 0 } else { 0xA5 }, "byte {i}");
+    }
+    assert_eq!(board.tag, (false, 0));
+}
+
+/// After unmap "the frame's bytes stay until the next map": here 50, in memory, by write-back.
+#[test]
+fn unmap_writes_back_and_bytes_stay() {
+    let mut b = ready();
+    assert_eq!(b.user_access(0, true, 4, 0, 50), done(0, 0));
+    assert_eq!(b.memory[4096..4112], [0; 16]);
+    assert_eq!(b.step(&Call::Unmap { page: 0x20_0000 }).1, Event::Unmapped { written: 1, dropped: 1 });
+    assert_eq!(b.memory[4096..4100], [0, 0, 0, 50]);
+    assert_eq!(b.records, vec![0; 4]);
+    // The sixteen bytes stay in the cache.
+    assert_eq!(b.cache[..4], [0, 0, 0, 50]);
+    assert_eq!(b.supervisor_access(false, 4, 0x1_0000_1000, 0), done(50, 0));
+    assert_eq!(b.map(0x20_0000, 1, true), done(0, 0));
+    assert_eq!(b.user_access(0, false, 4, 0, 0), done(0, 0));
+}
+
+/// "Map without dropping the prefix 1 lines: a later write-back puts old bytes over a user page."
+#[test]
+fn map_drops_prefix1_lines() {
+    let mut b = ready();
+    assert_eq!(b.supervisor_access(true, 4, 0x1_0000_2000, 0x0102_0304), done(0, 0));
+    let (a, e) = b.step(&Call::Map { page: 0x30_0000, frame: 2, write: true });
+    assert_eq!((a, e), (done(0, 0), Event::Mapped { by_page: 0, by_prefix1: 1 }));
+    b.flush_all();
+    assert_eq!(b.look(512), (0, vec![0; 16]));
+    assert!(b.memory[8192..12288].iter().all(|&x| x == 0));
+}
+
+/// "Refill over a changed line that is held already."
+#[test]
+fn load_and_map_keeps_a_changed_line() {
+    let mut b = ready();
+    b.user_access(0, true, 4, 0, 50);
+    assert_eq!(b.tag(0x2000_0000), done(0, 0));
+    let before = b.clone();
+    assert_eq!(b.step(&Call::LoadAndMap { line: 256 }), (done(0, 0), Event::FoundHeld));
+    assert_eq!(b, Board { tag: (false, 0), ..before });
+    assert_eq!(b.user_access(0, false, 1, 3, 0), done(50, 1));
+}
+
+#[test]
+fn load_and_map_inserts_with_write_back_and_permission() {
+    for write in [false, true] {
+        let mut b = ready();
+        // Line 2 of the page has the same place 0 as line 0; make it held and changed.
+        b.user_access(0, true, 4, 32, 0xAABB_CCDD);
+        b.memory[4096..4112].fill(6);
+        b.protect(0x20_0000, write);
+        b.tag(0x2000_0000);
+        let (a, e) = b.step(&Call::LoadAndMap { line: 256 });
+        assert_eq!((a, e), (done(0, 0), Event::Inserted { wrote_back: true }));
+        assert_eq!(b.memory[4128..4132], [0xAA, 0xBB, 0xCC, 0xDD]);
+        assert_eq!(b.record(0), rec(0x2000_0000, 256, false, write));
+        assert_eq!(b.user_access(0, false, 1, 3, 0), done(6, 1));
+    }
+}
+
+/// "Comparing only part of a name, so two segments with equal low bits match."
+#[test]
+fn names_are_compared_whole() {
+    let mut b = ready();
+    assert_eq!(b.attach(0, 1, 2049, true), done(0, 0));
+    assert_eq!(b.attach(0, 2, 2048 + 0x20_0000, true), done(0, 0));
+    b.user_access(0, true, 1, 0, 50);
+    assert_eq!(b.user_access(0, false, 1, 1 << 22, 0), no(8));
+    assert_eq!(b.user_access(0, false, 1, 2 << 22, 0), no(8));
+    assert_eq!(b.user_access(0, false, 1, 0, 0), done(50, 1));
+}
+
+/// "Protect that changes the frame word and forgets the lines."
+#[test]
+fn protect_changes_word_and_lines() {
+    let mut b = ready();
+    b.user_access(0, true, 1, 0, 50);
+    assert_eq!(b.step(&Call::Protect { page: 0x20_0000, write: false }), (done(0, 0), Event::Protected { lines: 1 }));
+    assert_eq!(b.words[1], 0x20_0000 * 4 + 1);
+    assert_eq!(b.record(0), rec(0x2000_0000, 256, true, false));
+    assert_eq!(b.user_access(0, true, 1, 0, 51), no(9));
+    assert_eq!(b.user_access(0, false, 1, 0, 0), done(50, 1));
+    // "ordinary (page write bit not asked)"
+    assert_eq!(b.supervisor_access(true, 1, 0x2_0000_0000, 52), done(0, 1));
+    assert_eq!(b.record(0), rec(0x2000_0000, 256, true, false));
+    assert_eq!(b.protect(0x20_0000, true), done(0, 0));
+    assert_eq!(b.user_access(0, true, 1, 0, 53), done(0, 1));
+}
+
+/// Most significant byte first; a store takes the low bits.
+#[test]
+fn byte_order_and_low_bits() {
+    let mut b = ready();
+    b.user_access(0, true, 4, 4, 0x0102_0304);
+    for (i, want) in [1, 2, 3, 4].into_iter().enumerate() {
+        assert_eq!(b.user_access(0, false, 1, 4 + i as u32, 0).value, want);
+    }
+    assert_eq!(b.user_access(0, false, 2, 4, 0).value, 0x0102);
+    assert_eq!(b.user_access(0, false, 2, 6, 0).value, 0x0304);
+    b.user_access(0, true, 1, 5, 0xFFFF_FFAA);
+    b.user_access(0, true, 2, 6, 0xFFFF_1122);
+    assert_eq!(b.user_access(0, false, 4, 4, 0).value, 0x01AA_1122);
+    // Prefix 0 goes to memory and leaves the cache alone.
+    let (records, cache) = (b.records.clone(), b.cache.clone());
+    assert_eq!(
+        b.step(&Call::SupervisorAccess { store: true, width: 4, global: 16, value: 0xDEAD_BEEF }),
+        (done(0, 0), Event::Uncached)
+    );
+    assert_eq!(b.memory[16..20], [0xDE, 0xAD, 0xBE, 0xEF]);
+    assert_eq!(b.supervisor_access(false, 2, 18, 0), done(0xBEEF, 0));
+    assert_eq!((b.records, b.cache), (records, cache));
+}
+
+/// "A segment may sit in several slots and several processes"; attach "replaces what was there".
+#[test]
+fn shared_segments() {
+    let mut b = ready();
+    assert_eq!(b.attach(0, 511, 2048, false), done(0, 0));
+    assert_eq!(b.attach(1, 7, 2048, true), done(0, 0));
+    b.user_access(0, true, 4, 0, 9);
+    assert_eq!(b.user_access(0, false, 4, 511 << 22, 0), done(9, 1));
+    assert_eq!(b.user_access(1, false, 4, 7 << 22, 0), done(9, 1));
+    assert_eq!(b.user_access(0, true, 4, 511 << 22, 0), no(7));
+    assert_eq!(b.attach(1, 7, 2050, true), done(0, 0));
+    assert_eq!(b.user_access(1, false, 4, 7 << 22, 0), no(8));
+    assert_eq!(b.detach(1, 7), done(0, 0));
+    assert_eq!(b.detach(1, 7), done(0, 0));
+    assert_eq!(b.user_access(1, false, 4, 7 << 22, 0), no(6));
+}
+
+#[test]
+fn flush_all_writes_back_and_drops() {
+    let mut b = ready();
+    b.user_access(0, true, 4, 0, 1);
+    b.user_access(0, false, 4, 16, 0);
+    b.tag(0x2000_0000);
+    assert_eq!(b.step(&Call::FlushAll), (done(0, 0), Event::Flushed { written: 1, dropped: 2 }));
+    assert_eq!(b.records, vec![0; 4]);
+    assert_eq!(b.memory[4096..4100], [0, 0, 0, 1]);
+    assert_eq!(b.tag, (true, 0x2000_0000));
+}
+
+/// "Prefix 1 misses fill under the prefix 1 name with write permission."
+#[test]
+fn prefix_1_record() {
+    let mut b = ready();
+    let before = b.memory.clone();
+    assert_eq!(
+        b.step(&Call::SupervisorAccess { store: false, width: 1, global: 0x1_0000_2035, value: 0 }),
+        (done(u32::from(before[0x2035]), 0), Event::Miss)
+    );
+    assert_eq!(b.record(1), rec(0x1000_0203, 0x203, false, true));
+    assert_eq!(b.supervisor_access(true, 1, 0x1_0000_2035, 1), done(0, 1));
+    assert_eq!(b.record(1), rec(0x1000_0203, 0x203, true, true));
+    // The store stays in the cache; look shows it.
+    assert_eq!(b.memory, before);
+    assert_eq!(b.look(0x203).1[5], 1);
+}

@@ -1,0 +1,541 @@
+//! Boards that no sequence of calls reaches.
+mod common;
+use common::*;
+use model::*;
+
+const PAGE: u64 = 0x20_0000;
+const NAME: u64 = 0x2000_0000;
+
+/// Records that don't hold: not valid, not at their place, physical line outside memory.
+fn strays() -> Vec<(u64, Record)> {
+    vec![
+        (0, Record { valid: false, ..rec(NAME, 256, true, true) }),
+        (1, rec(NAME, 256, true, true)),
+        (0, rec(NAME, 1024, true, true)),
+        (0, rec(NAME, (1 << 61) - 1, true, true)),
+        (0, rec(NAME + 1, 256, true, true)),
+    ]
+}
+
+#[test]
+fn stray_records_count_as_empty() {
+    for (place, stray) in strays() {
+        let mut b = ready();
+        put(&mut b, place, stray);
+        paint(&mut b, place, 0xEE);
+        assert!(b.held(place).is_none());
+        let start = b.clone();
+
+        // Look passes over it.
+        assert_eq!(b.look(256), (0, vec![0; 16]));
+        // Flush, protect and map leave it as it is and write nothing.
+        assert_eq!(b.step(&Call::FlushAll), (done(0, 0), Event::Flushed { written: 0, dropped: 0 }));
+        assert_eq!(b, start);
+        assert_eq!(b.step(&Call::Protect { page: PAGE, write: true }), (done(0, 0), Event::Protected { lines: 0 }));
+        assert_eq!(b, start);
+        let (_, e) = b.step(&Call::Unmap { page: PAGE });
+        assert_eq!(e, Event::Unmapped { written: 0, dropped: 0 });
+        assert_eq!((&b.records, &b.memory), (&start.records, &start.memory));
+        let (_, e) = b.step(&Call::Map { page: PAGE, frame: 1, write: true });
+        assert_eq!(e, Event::Mapped { by_page: 0, by_prefix1: 0 });
+        assert_eq!((&b.records, &b.cache), (&start.records, &start.cache));
+        // A miss overwrites what stands at its place, without write-back.
+        assert_eq!(
+            b.step(&Call::UserAccess { process: 0, store: false, width: 1, address: 0, value: 0 }),
+            (done(0, 0), Event::Miss)
+        );
+        assert_eq!(b.record(0), rec(NAME, 256, false, true));
+        assert_eq!(b.memory, start.memory);
+        if place == 1 {
+            assert_eq!(b.record(1), stray);
+        }
+    }
+}
+
+/// Decided: a hit goes by the whole name alone, whatever the page map says; later the record's own
+/// physical line is used.
+#[test]
+fn hit_without_mapping_and_write_back_to_own_line() {
+    let mut b = ready();
+    b.words[1] = 0;
+    put(&mut b, 0, rec(NAME, 7, false, true));
+    paint(&mut b, 0, 0x11);
+    assert_eq!(b.user_access(0, false, 4, 0, 0), done(0x1111_1111, 1));
+    assert_eq!(b.supervisor_access(false, 4, 0x2_0000_0000, 0), done(0x1111_1111, 1));
+    assert_eq!(b.supervisor_access(true, 1, 0x2_0000_0003, 0x11), done(0, 1));
+    assert_eq!(b.record(0), rec(NAME, 7, true, true));
+    put(&mut b, 0, rec(NAME, 7, false, true));
+    assert_eq!(b.user_access(0, true, 1, 1, 0x22), done(0, 1));
+    assert_eq!(b.record(0), rec(NAME, 7, true, true));
+    // Number 9 goes by the record if held, whatever the word says.
+    b.words[1] = frame_word(PAGE, true);
+    put(&mut b, 0, rec(NAME, 7, true, false));
+    assert_eq!(b.user_access(0, true, 1, 1, 0x33), no(9));
+    b.words[1] = frame_word(PAGE, false);
+    put(&mut b, 0, rec(NAME, 7, true, true));
+    assert_eq!(b.user_access(0, true, 1, 2, 0x33), done(0, 1));
+    // Write-back by a colliding miss: line 7, not the mapped 256.
+    let old = b.memory[256 * 16..257 * 16].to_vec();
+    let (_, e) = b.step(&Call::UserAccess { process: 0, store: false, width: 1, address: 32, value: 0 });
+    assert_eq!(e, Event::MissWriteBack);
+    assert_eq!(b.memory[7 * 16..7 * 16 + 4], [0x11, 0x22, 0x33, 0x11]);
+    assert_eq!(b.memory[256 * 16..257 * 16], old[..]);
+}
+
+/// A miss fills from memory after the write-back, so it sees the bytes just written.
+#[test]
+fn fill_sees_the_write_back() {
+    let mut b = ready();
+    // Place 0 holds a changed line of another name with physical line 258, which is that of NAME + 2.
+    put(&mut b, 0, rec(0x3000_0000, 258, true, true));
+    paint(&mut b, 0, 0x44);
+    assert_eq!(b.user_access(0, false, 1, 32, 0), done(0x44, 0));
+    // Never from another record: place 1 holds line 256 with other bytes.
+    put(&mut b, 1, rec(0x3000_0001, 256, true, true));
+    paint(&mut b, 1, 0x55);
+    assert_eq!(b.user_access(0, false, 1, 0, 0), done(0, 0));
+}
+
+/// Names from 2^40 up, of prefix 0 and of the page table region are held, written back and dropped.
+#[test]
+fn odd_names_are_held() {
+    for name in [0, 2, 0xFF_C000_0000, 1 << 40, (1 << 40) + NAME, u64::MAX - 1] {
+        let mut b = ready();
+        put(&mut b, 0, rec(name, 300, true, false));
+        paint(&mut b, 0, 0x66);
+        assert!(b.held(0).is_some());
+        assert_eq!(b.look(300), (0, vec![0x66; 16]));
+        // Not a hit for NAME, nor dropped by its page.
+        let mut c = b.clone();
+        assert_eq!(c.user_access(0, false, 1, 0, 0), done(0, 0));
+        assert_eq!(c.memory[4800..4816], [0x66; 16]);
+        let mut c = b.clone();
+        assert_eq!(c.step(&Call::Unmap { page: PAGE }).1, Event::Unmapped { written: 0, dropped: 0 });
+        assert_eq!(c.records, b.records);
+        let mut c = b.clone();
+        assert_eq!(c.step(&Call::Protect { page: PAGE, write: true }).1, Event::Protected { lines: 0 });
+        assert_eq!(c.records, b.records);
+        assert_eq!(b.step(&Call::FlushAll).1, Event::Flushed { written: 1, dropped: 1 });
+        assert_eq!(b.memory[4800..4816], [0x66; 16]);
+        assert_eq!(b.records, vec![0; 4]);
+    }
+}
+
+/// Several records with one physical line: look takes the lowest, write-backs go by rising place.
+#[test]
+fn doubled_physical_line() {
+    let mut b = ready();
+    put(&mut b, 0, rec(NAME, 300, true, true));
+    put(&mut b, 1, rec(NAME + 1, 300, true, true));
+    paint(&mut b, 0, 0x10);
+    paint(&mut b, 1, 0x20);
+    assert_eq!(b.look(300), (0, vec![0x10; 16]));
+    let mut c = b.clone();
+    c.flush_all();
+    assert_eq!(c.look(300), (0, vec![0x20; 16]));
+    let mut c = b.clone();
+    assert_eq!(c.step(&Call::Unmap { page: PAGE }).1, Event::Unmapped { written: 2, dropped: 2 });
+    assert_eq!(c.look(300), (0, vec![0x20; 16]));
+    // The upper one not changed: only the lower is written.
+    put(&mut b, 1, rec(NAME + 1, 300, false, true));
+    b.flush_all();
+    assert_eq!(b.look(300), (0, vec![0x10; 16]));
+    // A lowest record that is held but not changed still decides look.
+    let mut b = ready();
+    put(&mut b, 0, rec(NAME, 300, false, true));
+    paint(&mut b, 0, 0x30);
+    assert_eq!(b.look(300), (0, vec![0x30; 16]));
+}
+
+/// A doubled page: the lowest frame from U up.
+#[test]
+fn doubled_page() {
+    let mut b = ready();
+    b.words = vec![frame_word(PAGE, true), frame_word(PAGE + 1, true), frame_word(PAGE, false), frame_word(PAGE, true)];
+    assert_eq!(b.user_access(0, true, 1, 0, 9), no(9));
+    assert_eq!(b.user_access(0, false, 1, 0, 0).number, 0);
+    assert_eq!(b.record(0), rec(NAME, 512, false, false));
+    assert_eq!(b.map(PAGE, 1, true), no(10));
+    assert_eq!(b.protect(PAGE, true), done(0, 0));
+    assert_eq!(b.words[2..], [frame_word(PAGE, true), frame_word(PAGE, true)]);
+    assert_eq!(b.record(0), rec(NAME, 512, false, true));
+    assert_eq!(b.unmap(PAGE), done(0, 0));
+    assert_eq!(b.words, vec![frame_word(PAGE, true), frame_word(PAGE + 1, true), 0, frame_word(PAGE, true)]);
+    assert_eq!(b.map(PAGE, 2, true), no(11));
+    assert_eq!(b.unmap(PAGE), done(0, 0));
+    assert_eq!(b.unmap(PAGE), no(8));
+    assert_eq!(b.map(PAGE, 2, true), done(0, 0));
+}
+
+/// Words of no exact form, or of pages that are not ordinary, map nothing and are not free.
+#[test]
+fn odd_words() {
+    for word in
+        [1, 3, PAGE * 4, PAGE * 4 + 2, (PAGE + (1 << 32)) * 4 + 1, 0x1F_FFFF * 4 + 1, 0xFFC0_0000 * 4 + 3, u64::MAX]
+    {
+        let mut b = ready();
+        b.words[1] = word;
+        assert_eq!(b.user_access(0, false, 1, 0, 0), no(8), "{word}");
+        assert_eq!(b.unmap(PAGE), no(8));
+        assert_eq!(b.protect(PAGE, true), no(8));
+        assert_eq!(b.map(PAGE, 1, true), no(10));
+        assert_eq!(b.supervisor_access(false, 1, 0x1_0000_1000, 0), no(10));
+        assert_eq!(b.map(PAGE, 2, true), done(0, 0));
+    }
+}
+
+/// A pending name outside tag's range is pending, and load-and-map gives 8.
+#[test]
+fn odd_tags() {
+    for name in [0, 256, 0x1000_0100, 0xFF_C000_0000, NAME + (1 << 40), u64::MAX] {
+        let mut b = ready();
+        b.tag = (true, name);
+        // Not even if a word of the exact form for that page stands there.
+        b.words[2] = (name / 256).wrapping_mul(4) | 1;
+        let before = b.clone();
+        assert_eq!(b.user_access(0, false, 1, 0, 0), no(3));
+        assert_eq!(b.tag(NAME), no(3));
+        for line in [0, 256, 512, 512 + name % 256] {
+            assert_eq!(b.load_and_map(line), no(8));
+        }
+        assert_eq!(b.load_and_map(1024), no(2));
+        assert_eq!(b, before);
+        assert_eq!(b.drop_tag(), done(0, 0));
+        assert_eq!(b.tag, (false, 0));
+    }
+    // Not pending: the name means nothing.
+    let mut b = ready();
+    b.tag = (false, u64::MAX);
+    assert_eq!(b.drop_tag(), no(3));
+    assert_eq!(b.load_and_map(0), no(3));
+    assert_eq!(b.user_access(0, false, 1, 0, 0), done(0, 0));
+    assert_eq!(b.tag, (false, u64::MAX));
+    assert_eq!(b.tag(NAME), done(0, 0));
+    assert_eq!(b.tag, (true, NAME));
+}
+
+/// Load-and-map asks 8 and 13 of the page map even if the line is held; then leaves a held record
+/// with another physical line alone.
+#[test]
+fn load_and_map_held_elsewhere() {
+    let mut b = ready();
+    put(&mut b, 0, rec(NAME, 300, true, false));
+    b.tag(NAME);
+    let before = b.clone();
+    assert_eq!(b.load_and_map(300), no(13));
+    assert_eq!(b.load_and_map(0), no(13));
+    b.words[1] = 0;
+    assert_eq!(b.load_and_map(300), no(8));
+    b.words[1] = before.words[1];
+    assert_eq!(b, before);
+    assert_eq!(b.step(&Call::LoadAndMap { line: 256 }), (done(0, 0), Event::FoundHeld));
+    assert_eq!(b, Board { tag: (false, 0), ..before });
+}
+
+/// Map drops by name only: a held line of another name with a physical line in the frame stays, and
+/// held lines of the page with physical lines elsewhere go, without write-back.
+#[test]
+fn map_drops_by_name_only() {
+    let mut b = Board::fresh(shape(4, 1, 1, 4));
+    b.memory.fill(7);
+    put(&mut b, 0, rec(NAME, 300, true, true)); // named in the page, elsewhere
+    put(&mut b, 1, rec(0x1000_0201, 5, true, true)); // prefix 1 name of frame 2, elsewhere
+    put(&mut b, 2, rec(0x3000_0002, 514, true, true)); // in frame 2, another name
+    put(&mut b, 3, rec(0x1000_0303, 515, true, true)); // prefix 1 name of frame 3, in frame 2
+    for place in 0..4 {
+        paint(&mut b, place, 0x90 + place as u8);
+    }
+    let before = b.clone();
+    assert_eq!(
+        b.step(&Call::Map { page: PAGE, frame: 2, write: false }),
+        (done(0, 0), Event::Mapped { by_page: 1, by_prefix1: 1 })
+    );
+    assert_eq!(b.records[..4], [0; 4]);
+    assert_eq!(b.records[4..], before.records[4..]);
+    assert_eq!(b.cache, before.cache);
+    for (i, &byte) in b.memory.iter().enumerate() {
+        assert_eq!(byte, if i / 4096 == 2 { 0 } else { 7 });
+    }
+}
+
+/// Unmap: lines named in the page go to their own physical lines; a tag of the page stays pending.
+#[test]
+fn unmap_leaves_tag_and_uses_own_lines() {
+    let mut b = ready();
+    put(&mut b, 0, rec(NAME, 3, true, true));
+    paint(&mut b, 0, 0x77);
+    b.tag(NAME);
+    assert_eq!(b.unmap(PAGE), done(0, 0));
+    assert_eq!(b.memory[48..64], [0x77; 16]);
+    assert_eq!(b.tag, (true, NAME));
+    assert_eq!(b.load_and_map(256), no(8));
+}
+
+/// Prefix 1 and write permission: 9 is for users, so a held prefix 1 line without it takes stores.
+#[test]
+fn prefix_1_line_without_permission() {
+    let mut b = ready();
+    put(&mut b, 0, rec(0x1000_0200, 3, false, false));
+    paint(&mut b, 0, 0x12);
+    assert_eq!(b.supervisor_access(true, 1, 0x1_0000_2000, 0x34), done(0, 1));
+    assert_eq!(b.record(0), rec(0x1000_0200, 3, true, false));
+    assert_eq!(b.supervisor_access(false, 2, 0x1_0000_2000, 0), done(0x3412, 1));
+}
+
+/// A store marks its line changed even if the bytes stay the same.
+#[test]
+fn store_of_equal_bytes() {
+    let mut b = ready();
+    assert_eq!(b.user_access(0, true, 4, 0, 0), done(0, 0));
+    assert_eq!(b.record(0), rec(NAME, 256, true, true));
+}
+
+/// Slot words out of range count as empty; detach sets 0 whatever was there.
+#[test]
+fn odd_slots() {
+    for word in [1, 2, 2047 * 2 + 1, 4_190_208 * 2, u32::MAX, (1 << 31) + 2048 * 2 + 1] {
+        let mut b = ready();
+        b.slots[0] = word;
+        assert_eq!(b.user_access(0, true, 1, 0, 0), no(6));
+        assert_eq!(b.detach(0, 0), done(0, 0));
+        assert_eq!(b.slots[0], 0);
+    }
+}
+
+// ----- random wild boards -----
+
+const SEGMENTS: [u64; 5] = [2048, 2049, 3072, 2048 + 0x20_0000, 4_190_207];
+
+fn wild_page(r: &mut Rng) -> u64 {
+    if r.chance(20) {
+        return r.next() >> r.below(64);
+    }
+    if r.chance(12) {
+        return r.pick(&[0, 1, 0x10_0000, 0x10_0001, 0x1F_FFFF, 0xFFC0_0000, 0xFFFF_FFFF, PAGE + (1 << 32)]);
+    }
+    r.pick(&SEGMENTS) * 1024 + r.below(2)
+}
+
+fn wild_name(r: &mut Rng) -> u64 {
+    if r.chance(20) {
+        return r.next() >> r.below(64);
+    }
+    if r.chance(4) {
+        return 0x1000_0000 + r.below(5) * 256 + r.pick(&[0, 1, 2, 3, 8, 255]);
+    }
+    (wild_page(r) % (1 << 56)) * 256 + r.pick(&[0, 1, 2, 3, 8, 255])
+}
+
+fn wild_word(r: &mut Rng) -> u64 {
+    match r.below(6) {
+        0 | 1 => 0,
+        2 => r.next(),
+        _ => (wild_page(r) % (1 << 40)) * 4 + r.pick(&[1, 3, 1, 3, 1, 3, 0, 2]),
+    }
+}
+
+fn wild_board(r: &mut Rng) -> Board {
+    let frames = 1 + r.below(4);
+    let s = shape(frames, r.below(frames + 1).min(r.below(frames + 1)), 1 + r.below(2), 1 << r.below(4));
+    let mut b = Board::fresh(s);
+    for _ in 0..8 {
+        let slot = r.below(s.processes) * 512 + r.below(4);
+        b.slots[slot as usize] = if r.chance(8) { r.next() as u32 } else { slot_word(r.pick(&SEGMENTS), r.flip()) };
+    }
+    for word in b.words.iter_mut() {
+        *word = wild_word(r);
+    }
+    for place in 0..s.lines {
+        let mut name = wild_name(r);
+        if !r.chance(8) {
+            name = name / s.lines * s.lines + place;
+        }
+        let line = if r.chance(12) { r.next() >> 3 } else { r.below(256 * frames) };
+        put(&mut b, place, Record { name, line, changed: r.flip(), write: r.flip(), valid: !r.chance(6) });
+    }
+    b.cache.iter_mut().for_each(|x| *x = r.next() as u8);
+    b.memory.iter_mut().for_each(|x| *x = r.next() as u8);
+    b.tag = (r.chance(5), wild_name(r));
+    b
+}
+
+fn wild_call(r: &mut Rng, b: &Board) -> Call {
+    let huge = |r: &mut Rng, n: u64| if r.chance(40) { r.next() >> r.below(64) } else { n };
+    let (store, value) = (r.flip(), r.next() as u32);
+    let width = if r.chance(30) { r.next() as u32 } else { r.pick(&[1, 1, 1, 2, 4]) };
+    let within = r.pick(&[0, 1, 2, 3, 8, 255]) * 16 + r.below(16);
+    match r.below(14) {
+        0..=3 => {
+            let process = r.below(b.shape.processes);
+            let process = huge(r, process);
+            let address = (r.below(4) << 22) + r.below(2) * 4096 + within;
+            let address = huge(r, address) as u32;
+            Call::UserAccess { process, store, width, address, value }
+        }
+        4..=6 => {
+            let global = match r.below(4) {
+                0 => 0x1_0000_0000 + r.below(5) * 4096 + within,
+                1 => r.below(5) * 4096 + within,
+                // The address of a record's name, or of a page of the pool.
+                2 => (b.records[2 * r.below(b.shape.lines) as usize] % (1 << 40)) * 16 + r.below(16),
+                _ => (wild_page(r) % (1 << 32)) * 4096 + within,
+            };
+            Call::SupervisorAccess { store, width, global: huge(r, global), value }
+        }
+        7 => {
+            let (process, slot, segment) = (r.below(2), r.below(4), r.pick(&SEGMENTS));
+            Call::Attach { process: huge(r, process), slot: huge(r, slot), segment: huge(r, segment), write: r.flip() }
+        }
+        8 => Call::Detach { process: r.below(2), slot: r.below(4) },
+        9 => {
+            let frame = r.below(5);
+            Call::Map { page: wild_page(r), frame: huge(r, frame), write: r.flip() }
+        }
+        10 => Call::Unmap { page: wild_page(r) },
+        11 => Call::Protect { page: wild_page(r), write: r.flip() },
+        12 => {
+            if r.flip() {
+                Call::FlushAll
+            } else {
+                Call::Tag { name: wild_name(r) }
+            }
+        }
+        _ => {
+            let line = if b.tag.0 && r.flip() {
+                mapping(&b.shape, &b.words, b.tag.1 / 256).map_or(0, |(f, _)| f * 256 + b.tag.1 % 256)
+            } else {
+                r.below(1100)
+            };
+            if r.chance(4) {
+                Call::DropTag
+            } else {
+                Call::LoadAndMap { line: huge(r, line) }
+            }
+        }
+    }
+}
+
+/// Laws that 01 states and that can be seen from outside, on random wild boards.
+#[test]
+fn laws_on_random_wild_boards() {
+    let mut r = Rng(0x9E37_79B9_7F4A_7C15);
+    let mut seen = [0u32; 14];
+    for _ in 0..4_000 {
+        let mut b = wild_board(&mut r);
+        for _ in 0..8 {
+            let call = wild_call(&mut r, &b);
+            let before = b.clone();
+            let (a, e) = b.step(&call);
+            seen[a.number as usize] += 1;
+            if a.number != 0 {
+                assert_eq!((a, e), (no(a.number), Event::Refused(a.number)));
+                assert_eq!(b, before, "{call:?}");
+                continue;
+            }
+            assert_eq!((b.shape, b.lengths()), (before.shape, before.lengths()));
+            if !matches!(call, Call::Attach { .. } | Call::Detach { .. }) {
+                assert_eq!(b.slots, before.slots);
+            }
+            if !matches!(call, Call::Map { .. } | Call::Unmap { .. } | Call::Protect { .. }) {
+                assert_eq!(b.words, before.words);
+            }
+            if !matches!(call, Call::Tag { .. } | Call::LoadAndMap { .. } | Call::DropTag) {
+                assert_eq!(b.tag, before.tag);
+            }
+            if let Call::UserAccess { store, .. } | Call::SupervisorAccess { store, .. } = call {
+                assert!(!store || a.value == 0);
+            } else {
+                assert_eq!((a.value, a.mark), (0, 0));
+            }
+            let global = match call {
+                Call::UserAccess { process, address, .. } => {
+                    let word = before.slots[(process * 512 + u64::from(address >> 22)) as usize];
+                    Some((u64::from(word >> 1) << 22) | u64::from(address & 0x3F_FFFF))
+                }
+                Call::SupervisorAccess { global, .. } if global >= 1 << 32 => Some(global),
+                _ => None,
+            };
+            if let Some(global) = global {
+                // "the mark is defined by the record before the call"
+                let name = global >> 4;
+                let place = name & (b.shape.lines - 1);
+                let old = before.record(place);
+                let held = old.valid && old.name == name && old.line < 256 * b.shape.frames;
+                assert_eq!(a.mark, u32::from(held));
+                // "An access alters no record but the one at its own place."
+                for other in (0..b.shape.lines).filter(|&p| p != place) {
+                    assert_eq!(b.record(other), before.record(other));
+                    assert_eq!(b.cache[16 * other as usize..][..16], before.cache[16 * other as usize..][..16]);
+                }
+                assert_eq!(b.record(place).name, name);
+                // Memory changes only by the write-back.
+                if e != Event::MissWriteBack {
+                    assert_eq!(b.memory, before.memory);
+                }
+            }
+            match e {
+                Event::Flushed { written, dropped } => {
+                    assert!(written <= dropped);
+                    for place in 0..b.shape.lines {
+                        assert!(b.held(place).is_none());
+                        if before.held(place).is_none() {
+                            assert_eq!(b.record(place), before.record(place));
+                        }
+                    }
+                    assert_eq!(b.cache, before.cache);
+                    if written == 0 {
+                        assert_eq!(b.memory, before.memory);
+                    }
+                }
+                Event::Unmapped { .. } | Event::Mapped { .. } => assert_eq!(b.cache, before.cache),
+                Event::Protected { .. } => assert_eq!((&b.cache, &b.memory), (&before.cache, &before.memory)),
+                Event::Uncached => assert_eq!((&b.cache, &b.records), (&before.cache, &before.records)),
+                _ => {}
+            }
+        }
+    }
+    // Number 1 has its own tests; every other number has been met.
+    assert!(seen.iter().enumerate().all(|(n, &count)| n == 1 || count > 5), "{seen:?}");
+}
+
+/// Lengths and numbers that disagree, huge arguments: no call panics, and each gives 1.
+#[test]
+fn no_panic_on_wild_lengths() {
+    let mut r = Rng(0xDEAD_BEEF_1234_5678);
+    let mut refused = 0;
+    for _ in 0..3_000 {
+        let mut b = wild_board(&mut r);
+        let calls: Vec<Call> = (0..12).map(|_| wild_call(&mut r, &b)).collect();
+        for _ in 0..1 + r.below(2) {
+            let n = r.below(40) as usize;
+            let wild = r.next() >> r.below(64);
+            match r.below(9) {
+                0 => b.slots.resize(b.slots.len() / 40 * n, 1),
+                1 => b.words.resize(n, 1),
+                2 => b.records.resize(n, 1),
+                3 => b.cache.resize(16 * n, 1),
+                4 => b.memory.resize(b.memory.len() / 20 * n, 1),
+                5 => b.shape.frames = wild,
+                6 => b.shape.uncached = wild,
+                7 => b.shape.processes = wild,
+                _ => b.shape.lines = wild,
+            }
+        }
+        let fits = b.fits();
+        for call in calls {
+            let before = b.clone();
+            let (a, _) = b.step(&call);
+            assert_eq!(a.number == 1, !fits);
+            if !fits {
+                assert_eq!(b, before);
+                refused += 1;
+            }
+            let mut plain = Plain::of(&before);
+            assert_eq!(plain.step(&call).number == 1, !fits);
+            for line in [0, 1, 255, r.next()] {
+                assert_eq!(b.look(line).0 == 1, !fits);
+            }
+        }
+    }
+    assert!(refused > 20_000);
+}
