@@ -1,5 +1,6 @@
-/* The calls of the board, proved in Rattle, for C and C++ on x86-64 Linux. Link liboaledva.a and
- * liboaledva_user.a (`make library` builds both).
+/* The calls of the board, proved in Rattle, for C and C++ on x86-64 Linux. Link liboaledva.a and liboaledva_user.a (`make
+ * library` builds both). They need memcpy and memset, keep no data of their own and allocate nothing; attach and detach take
+ * some 2 KiB of stack.
  *
  * What is proved of each call, for whatever numbers and buffer lengths the caller brings: it returns, and the answer, the
  * buffers and the tag after it are those that the call's definition in crates/machine/specs gives of the buffers and the
@@ -8,15 +9,21 @@
  *
  * What the proof assumes of the caller, and nothing checks:
  *   - each pointer points to as many elements as the length after it says, readable, and writable where the prototype has
- *     no const. Lengths count elements, not bytes. Where the length is 0 the pointer may be NULL;
+ *     no const. Lengths count elements, not bytes. Where the length is 0 the pointer may be NULL. `set` and `name` of the
+ *     calls on the tag have no length: each points to one element and is never NULL;
  *   - alignment: each pointer is aligned for its elements (4 for uint32_t, 8 for uint64_t), as every C array of them is;
  *   - aliasing: what a call may write (a pointer without const) overlaps nothing else that is passed to it, and no other
- *     thread writes what a call reads, or touches what it writes, until it returns. Pointers with const may overlap.
+ *     thread writes what a call reads, or touches what it writes, until it returns. Pointers with const may overlap. Calls
+ *     on different boards may run at the same time.
  *
  * A flag is a number: 0 is no, anything else is yes.
  */
 #ifndef OALEDVA_H
 #define OALEDVA_H
+
+#if !defined(__x86_64__) || defined(__ILP32__)
+#error "liboaledva.a and liboaledva_user.a are for x86-64 with 64-bit pointers"
+#endif
 
 #include <stddef.h>
 #include <stdint.h>
@@ -47,7 +54,8 @@ extern "C" {
 enum {
     OALEDVA_DONE = 0,
     OALEDVA_SHAPE = 1,           /* lengths or F, U, P, L disagree or are out of limits */
-    OALEDVA_RANGE = 2,           /* process, slot, segment, frame, physical line, line name, page or global address out of range */
+    OALEDVA_RANGE = 2,           /* process, slot, segment, frame, physical line, line name, page or global address outside its
+                                    range */
     OALEDVA_TAG = 3,             /* a tag is pending (accesses, tag), or none is (load-and-map, drop tag) */
     OALEDVA_ALIGNMENT = 4,       /* width not 1, 2 or 4, or the address no multiple of it */
     OALEDVA_KERNEL = 5,          /* user address from 2^31 up */
@@ -68,7 +76,8 @@ static inline uint32_t oaledva_value(uint64_t answer) { return (uint32_t)answer;
 
 /* ---- a board in one place, for those who want it: the shape, the buffers with their lengths, and the tag.
  * Every call takes the shape and the five buffers first, in this order; OALEDVA_LEND(b) writes these fourteen arguments, and
- * OALEDVA_TAG_OF(b) the tag's two, where a call may change it. So: oaledva_unmap(OALEDVA_LEND(b), page). */
+ * OALEDVA_TAG_OF(b) the tag's two, where a call may change it. So: oaledva_unmap(OALEDVA_LEND(b), page). `b` is written out
+ * fourteen times: let it be a name. */
 typedef struct oaledva_board {
     size_t frames, uncached, processes, lines;
     uint32_t *slots;
@@ -115,8 +124,9 @@ uint64_t oaledva_user_access(
     uint32_t set, uint64_t name,
     size_t process, uint32_t store, uint32_t width, uint32_t address, uint32_t value);
 
-/* A supervisor's load or store by global address (below 2^44): ordinary, prefix 0 or prefix 1. The page's write bit is not
- * asked. Refused by 1 to 4, 8, 10 and 12. */
+/* A supervisor's load or store by global address (below 2^44): ordinary; prefix 0, the physical address itself, uncached, in
+ * frames below U; or prefix 1, 2^32 + the physical address, cached, in frames from U up whose word is 0. The page's write bit
+ * is not asked. Refused by 1 to 4, 8, 10 and 12. */
 uint64_t oaledva_supervisor_access(
     OALEDVA_SHAPE_ARGS,
     const uint32_t *slots, size_t slots_length,
@@ -190,9 +200,9 @@ uint64_t oaledva_flush_all(
     const uint8_t *cache, size_t cache_length,
     uint8_t *memory, size_t memory_length);
 
-/* ---- the tag: *set is not 0 where a tag is pending, and *name is its line name. A call that changes neither leaves both as
- * they are; a new tag has *set 1, none has *set 0 and *name 0.
- * Remembers a line name of an ordinary page. Refused by 1, 2 and 3. */
+/* ---- the tag: *set is not 0 where a tag is pending, and *name is its line name. A refused call leaves both as they are.
+ * Remembers the line name (global address / 16) of a line of an ordinary page, 0x20000000 to 0xFFBFFFFFFF: *set is then 1.
+ * Refused by 1, 2 and 3. */
 uint64_t oaledva_tag(
     OALEDVA_SHAPE_ARGS,
     const uint32_t *slots, size_t slots_length,
@@ -201,10 +211,10 @@ uint64_t oaledva_tag(
     const uint8_t *cache, size_t cache_length,
     const uint8_t *memory, size_t memory_length,
     uint32_t *set, uint64_t *name,
-    uint64_t line);
+    uint64_t line_name);
 
-/* Loads the line of the pending name from the physical line to which it is mapped, and forgets the name. A line that is held
- * already stays as it is. Refused by 1, 2, 3, 8 and 13. */
+/* Loads the line of the pending name from the physical line (physical address / 16) to which it is mapped, and forgets the
+ * name: *set and *name are then 0. A line that is held already stays as it is. Refused by 1, 2, 3, 8 and 13. */
 uint64_t oaledva_load_and_map(
     OALEDVA_SHAPE_ARGS,
     const uint32_t *slots, size_t slots_length,
@@ -213,9 +223,9 @@ uint64_t oaledva_load_and_map(
     uint8_t *cache, size_t cache_length,
     uint8_t *memory, size_t memory_length,
     uint32_t *set, uint64_t *name,
-    size_t line);
+    size_t physical_line);
 
-/* Forgets the pending name. Refused by 1 and 3. */
+/* Forgets the pending name: *set and *name are then 0. Refused by 1 and 3. */
 uint64_t oaledva_drop_tag(
     OALEDVA_SHAPE_ARGS,
     const uint32_t *slots, size_t slots_length,
@@ -227,7 +237,7 @@ uint64_t oaledva_drop_tag(
 
 /* ---- look: the current sixteen bytes of a physical line (below 256 * F). Changes nothing. Refused by 1 and 2.
  * Returns where they stand in the caller's own buffers: an offset in cache, or OALEDVA_IN_MEMORY + an offset in memory;
- * refused, OALEDVA_NOWHERE. */
+ * refused, OALEDVA_NOWHERE. The place holds until another call changes the board. */
 uint64_t oaledva_look(
     OALEDVA_SHAPE_ARGS,
     const uint32_t *slots, size_t slots_length,
@@ -235,7 +245,7 @@ uint64_t oaledva_look(
     const uint64_t *records, size_t records_length,
     const uint8_t *cache, size_t cache_length,
     const uint8_t *memory, size_t memory_length,
-    size_t line);
+    size_t physical_line);
 
 #define OALEDVA_IN_MEMORY ((uint64_t)1 << 63)
 #define OALEDVA_NOWHERE UINT64_MAX
@@ -254,7 +264,7 @@ uint32_t oaledva_look_number(
     const uint64_t *records, size_t records_length,
     const uint8_t *cache, size_t cache_length,
     const uint8_t *memory, size_t memory_length,
-    size_t line);
+    size_t physical_line);
 
 #ifdef __cplusplus
 }

@@ -4,8 +4,9 @@
 //!
 //! # Safety
 //! What the proof assumes of the caller: each pointer points to as many elements as its length says (where the length is 0 it
-//! may be null), aligned for them; what a call may write overlaps nothing else that is passed, and nobody else touches the
-//! buffers during the call. Nothing is asked of the numbers, the lengths or the contents: a wrong one gets its number.
+//! may be null), aligned for them; `set` and `name` have no length, and each points to one element; what a call may write
+//! overlaps nothing else that is passed, and nobody else touches the buffers during the call. Nothing is asked of the
+//! numbers, the lengths or the contents: a wrong one gets its number.
 
 macro_rules! pointer {
     (read $element:ty) => { *const $element };
@@ -66,18 +67,18 @@ calls! { "oaledva":
     fn oaledva_flush_all(read slots, read words, write records, read cache, write memory) -> u64;
     /// Remembers a line name.
     fn oaledva_tag(read slots, read words, read records, read cache, read memory,
-        set: *mut u32, name: *mut u64, line: u64) -> u64;
+        set: *mut u32, name: *mut u64, line_name: u64) -> u64;
     /// Loads the line of the pending name, and forgets the name.
     fn oaledva_load_and_map(read slots, read words, write records, write cache, write memory,
-        set: *mut u32, name: *mut u64, line: usize) -> u64;
+        set: *mut u32, name: *mut u64, physical_line: usize) -> u64;
     /// Forgets the pending name.
     fn oaledva_drop_tag(read slots, read words, read records, read cache, read memory,
         set: *mut u32, name: *mut u64) -> u64;
     /// Where the current sixteen bytes of a physical line stand: an offset in the cache bytes, or [`IN_MEMORY`] and an offset
     /// in memory, or [`NOWHERE`] where it is refused.
-    fn oaledva_look(read slots, read words, read records, read cache, read memory, line: usize) -> u64;
+    fn oaledva_look(read slots, read words, read records, read cache, read memory, physical_line: usize) -> u64;
     /// The number that look gives: 0, 1 or 2.
-    fn oaledva_look_number(read slots, read words, read records, read cache, read memory, line: usize) -> u32;
+    fn oaledva_look_number(read slots, read words, read records, read cache, read memory, physical_line: usize) -> u32;
 }
 
 /// What look adds to an offset in memory.

@@ -137,8 +137,9 @@ macro_rules! call {
     ($board:ident, $pointer:ident, $name:ident($($argument:expr),*)) => {{
         let (slots, words, records) = ($board.slots.len(), $board.words.len(), $board.records.len());
         let (cache, memory) = ($board.cache.len(), $board.memory.len());
-        // Safety: the buffers are slices, so they are valid and aligned; those that a call may write are borrowed mutably
-        // through the board, so they are apart from all else.
+        // Safety: the buffers are those of `Board::new` or `Lent::over` (the fields are private): vectors or slices, so they
+        // are valid and aligned, and a length doesn't change from one line to the next. Those that a call may write are
+        // borrowed mutably through the board, so they are apart from all else.
         unsafe {
             ffi::$name(
                 $board.shape.frames,
@@ -245,14 +246,14 @@ where
     }
 
     /// The current sixteen bytes of a physical line: that part of the cache bytes or of memory itself.
-    pub fn look(&self, line: usize) -> Result<&[u8], Refusal> {
+    pub fn look(&self, line: usize) -> Result<&[u8; LINE_BYTES], Refusal> {
         let place = call!(self, as_ptr, oaledva_look(line));
         let (bytes, at) = match place {
             ffi::NOWHERE => return Err(Refusal::of(self.look_number(line)).expect("look is refused")),
             place if place < ffi::IN_MEMORY => (&self.cache[..], place as usize),
             place => (&self.memory[..], (place - ffi::IN_MEMORY) as usize),
         };
-        Ok(&bytes[at..at + LINE_BYTES])
+        Ok(bytes[at..at + LINE_BYTES].try_into().expect("sixteen bytes"))
     }
 
     /// The number of such a look: 0, 1 or 2.
@@ -260,7 +261,7 @@ where
         call!(self, as_ptr, oaledva_look_number(line))
     }
 
-    /// The mark of the last call: whether it was an access that found its line held.
+    /// The mark of the last call but look: whether it was an access that found its line held.
     pub fn hit(&self) -> bool {
         self.hit
     }

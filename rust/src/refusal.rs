@@ -4,18 +4,31 @@ use std::fmt;
 #[derive(Clone, Copy, Debug, PartialEq, Eq, Hash)]
 #[repr(u32)]
 pub enum Refusal {
+    /// Lengths or F, U, P, L disagree or are out of limits.
     Shape = 1,
+    /// Process, slot, segment, frame, physical line, line name, page or global address outside its range.
     Range = 2,
+    /// A tag is pending (accesses, tag), or none is (load-and-map, drop tag).
     Tag = 3,
+    /// Width not 1, 2 or 4, or the address no multiple of it.
     Alignment = 4,
+    /// User address from 2^31 up.
     Kernel = 5,
+    /// Nothing is attached to the address's slot.
     SlotEmpty = 6,
+    /// Store, and the segment is attached read-only.
     SlotReadOnly = 7,
+    /// The page is not mapped, and the line not held.
     NotMapped = 8,
+    /// User store, and the page is read-only.
     PageReadOnly = 9,
+    /// Map, or an access under prefix 1: the frame's word is not 0.
     FrameInUse = 10,
+    /// Map: the page is mapped already.
     MappedAlready = 11,
+    /// Page table region, beyond memory, prefix 0 from U up, prefix 1 below U.
     Outside = 12,
+    /// Load-and-map: not the physical line to which the tag is mapped.
     OtherLine = 13,
 }
 

@@ -8,12 +8,14 @@ use std::fs::{File, OpenOptions};
 use std::io::Write;
 use std::os::unix::process::ExitStatusExt;
 use std::process::ExitStatus;
+use std::sync::atomic::{AtomicU32, Ordering};
 use std::sync::Mutex;
 
 // Of the C library, which every program has.
 extern "C" {
     fn fork() -> i32;
     fn waitpid(child: i32, status: *mut i32, options: i32) -> i32;
+    fn alarm(seconds: u32) -> u32;
 }
 
 /// How a child ended.
@@ -41,6 +43,23 @@ pub fn child(work: impl FnOnce() -> i32) -> Result<End, String> {
         }
         _ => Err(format!("cannot make a child: {}", std::io::Error::last_os_error())),
     }
+}
+
+/// Every call ends: a run that takes longer than this is ended by a signal.
+static SECONDS: AtomicU32 = AtomicU32::new(30);
+
+/// The signal of a run that does not end.
+pub const ALARM: i32 = 14;
+
+/// Runs may take so long from now on.
+pub fn limit_runs(seconds: u32) {
+    SECONDS.store(seconds, Ordering::Relaxed);
+}
+
+/// A run begins.
+pub fn begin() {
+    // Safety: it only asks for a signal later.
+    unsafe { alarm(SECONDS.load(Ordering::Relaxed)) };
 }
 
 // ----- the record -----
@@ -79,7 +98,8 @@ pub fn recorded(file: &str, work: impl FnOnce() -> i32) -> Result<(Trace, Differ
 }
 
 fn by_signal(signal: i32) -> Difference {
-    differs(Kind::Signal, format!("signal {signal} ended the program"))
+    let why = if signal == ALARM { "a run does not end: " } else { "" };
+    differs(Kind::Signal, format!("{why}signal {signal} ended the program"))
 }
 
 /// Whether a signal ends the run of a trace; if so, it counts as the last step's difference.

@@ -8,7 +8,8 @@ fn main() {
     run(Command::new(&compiler)
         .args([
             "-std=c99",
-            "-O1",
+            // Not optimised, so that an argument is cut to the width that the header gives it.
+            "-O0",
             "-Wall",
             "-Wextra",
             "-Wpedantic",

@@ -45,6 +45,9 @@ cases! {
     Fresh UncachedLoad "prefix 0: load";
     Fresh UncachedStore "prefix 0: store";
     Fresh TopAddress "user access done at 0x7FFFFFFF";
+    Fresh TopOrdinary "supervisor access done at 0xFFBFFFFFFFF";
+    Fresh TopUncached "prefix 0: done at the last byte of frame U - 1";
+    Fresh TopCached "prefix 1: done at the last byte of memory";
     Fresh SupervisorReadOnly "supervisor store to a read-only page: done";
     Fresh UnmappedUser "user access, 8: not mapped, not held";
     Fresh UnmappedSupervisor "supervisor access, 8: not mapped, not held";
@@ -97,7 +100,8 @@ cases! {
     Wild ProtectDoubled "protect of a doubled page";
     Wild FlushWritesFar "flush all: writes back a name from 2^40 up";
     Wild FlushWritesTwice "flush all: two changed lines of one physical line";
-    Wild FlushKeepsStale "flush all: keeps a valid record that holds nothing";
+    Wild FlushKeepsStray "flush all: keeps a valid record that is not at its place";
+    Wild FlushKeepsBeyond "flush all: keeps a valid record of a line beyond memory";
     Wild FarTag "load-and-map, 8: the pending name is outside tag's range";
     Wild UnmappedHeld "load-and-map, 8 though the line is held";
     Wild LookLowest "look: in the lowest of several records";
@@ -149,7 +153,8 @@ pub enum Before {
     Flush {
         far: bool,
         twice: bool,
-        stale: bool,
+        stray: bool,
+        beyond: bool,
     },
     Nothing,
 }
@@ -226,7 +231,7 @@ fn page_facts(board: &Board, page: u64, frame: u64) -> Before {
 
 fn flush_facts(board: &Board) -> Before {
     let mut changed = Vec::new();
-    let (mut far, mut stale) = (false, false);
+    let (mut far, mut stray, mut beyond) = (false, false, false);
     for place in 0..board.shape.lines {
         match board.held(place) {
             Some(record) if record.changed => {
@@ -234,11 +239,16 @@ fn flush_facts(board: &Board) -> Before {
                 changed.push(record.line);
             }
             Some(_) => {}
-            None => stale |= board.record(place).valid,
+            None => {
+                let record = board.record(place);
+                let at_its_place = place_of(record.name, board.shape.lines) == place;
+                stray |= record.valid && !at_its_place;
+                beyond |= record.valid && at_its_place;
+            }
         }
     }
     changed.sort_unstable();
-    Before::Flush { far, twice: changed.windows(2).any(|pair| pair[0] == pair[1]), stale }
+    Before::Flush { far, twice: changed.windows(2).any(|pair| pair[0] == pair[1]), stray, beyond }
 }
 
 /// The one number or length that makes a board unfit, all others being right.
@@ -313,10 +323,12 @@ pub fn cases_of(facts: &Facts, call: &Call, event: Event) -> Vec<Case> {
             match line.kind {
                 Kind::Ordinary => {
                     when(event == Event::Refused(8), Case::UnmappedSupervisor);
+                    when(done && *global == PAGE_TABLE - 1, Case::TopOrdinary);
                     let read_only = line.mapped.is_some_and(|(_, write)| !write);
                     when(done && *store && read_only, Case::SupervisorReadOnly);
                 }
                 Kind::Cached(_) => {
+                    when(done && *global == PREFIX1 + shape.frames * PAGE_BYTES - 1, Case::TopCached);
                     when(in_use && line.held(), Case::InUseHeld);
                     when(in_use && frame < shape.uncached, Case::InUseLow);
                     when(outside && frame < shape.uncached, Case::OutsidePrefix1Low);
@@ -324,6 +336,7 @@ pub fn cases_of(facts: &Facts, call: &Call, event: Event) -> Vec<Case> {
                     when(done && tag.0, Case::TaggedPrefix);
                 }
                 Kind::Uncached(_) => {
+                    when(done && *global == shape.uncached * PAGE_BYTES - 1, Case::TopUncached);
                     when(done && !store, Case::UncachedLoad);
                     when(done && *store, Case::UncachedStore);
                     when(done && tag.0, Case::TaggedPrefix);
@@ -372,7 +385,7 @@ pub fn cases_of(facts: &Facts, call: &Call, event: Event) -> Vec<Case> {
             when(matches!(event, Event::Protected { lines: 1.. }), Case::ProtectLines);
             when(done && *doubled, Case::ProtectDoubled);
         }
-        (Call::FlushAll, Before::Flush { far, twice, stale }) => {
+        (Call::FlushAll, Before::Flush { far, twice, stray, beyond }) => {
             if let Event::Flushed { written, dropped } = event {
                 when(dropped == 0, Case::FlushNothing);
                 when(written > 0, Case::FlushWrites);
@@ -380,7 +393,8 @@ pub fn cases_of(facts: &Facts, call: &Call, event: Event) -> Vec<Case> {
             }
             when(*far, Case::FlushWritesFar);
             when(*twice, Case::FlushWritesTwice);
-            when(*stale, Case::FlushKeepsStale);
+            when(*stray, Case::FlushKeepsStray);
+            when(*beyond, Case::FlushKeepsBeyond);
         }
         _ => {}
     }

@@ -61,12 +61,13 @@ impl World {
 
 /// A small shape that keeps the limits; rarely a large one.
 pub fn shape(rng: &mut Rng) -> Shape {
-    let frames = 1 + rng.below(5);
+    let most = if rng.percent(10) { 8 } else { 5 };
+    let frames = 1 + rng.below(most);
     let uncached = if rng.percent(90) { rng.below(frames).min(rng.below(frames)) } else { rng.below(frames + 1) };
     let processes = if rng.percent(2) { PROCESSES_MAX } else { 1 + rng.below(3) };
     let lines = match rng.below(1000) {
         0..=7 => LINES_MAX,
-        8..=29 => 512,
+        8..=29 => rng.pick(&[256, 512]),
         _ => 1 << rng.below(5),
     };
     Shape { frames, uncached, processes, lines }
@@ -189,7 +190,7 @@ fn wild_record(rng: &mut Rng, world: &World, board: &Board, place: u64) -> (u64,
 /// lengths that don't agree either.
 fn spoil(rng: &mut Rng, board: &mut Board) {
     let Shape { frames, uncached, lines, .. } = board.shape;
-    match rng.below(24) {
+    match rng.below(27) {
         0 => {
             board.shape.frames = 0;
             board.shape.uncached = 0;
@@ -217,6 +218,10 @@ fn spoil(rng: &mut Rng, board: &mut Board) {
         17 => board.shape.frames += 1,
         18 => board.shape.lines *= 2,
         19 => std::mem::swap(&mut board.shape.frames, &mut board.shape.lines),
+        // Right in their low 32 bits.
+        20 => board.shape.frames += 1 << 32,
+        21 => board.shape.uncached += 1 << 32,
+        22 => board.shape.lines += 1 << 32,
         _ => {
             let wrong = rng.pick(&[0, 3, 17, 512, frames + 1, lines - 1, uncached + 1, 65536, 1 << 20, u64::MAX]);
             match rng.below(4) {
@@ -362,7 +367,7 @@ pub fn user_access(rng: &mut Rng, world: &World, board: &Board, process: u64) ->
 }
 
 fn supervisor_access(rng: &mut Rng, world: &World, board: &Board) -> Call {
-    let (byte, width) = byte_and_width(rng);
+    let (byte, mut width) = byte_and_width(rng);
     let Shape { frames, uncached, .. } = board.shape;
     let within = rng.pick(&world.lines) * LINE_BYTES + byte;
     let line = match rng.below(100) {
@@ -372,7 +377,13 @@ fn supervisor_access(rng: &mut Rng, world: &World, board: &Board) -> Call {
         55..=79 => PREFIX1 + free_frame(rng, board) * PAGE_BYTES + within,
         80..=84 => PREFIX1 + rng.below(frames.clamp(1, 8) + 1) * PAGE_BYTES + within,
         85..=92 => rng.below(uncached.clamp(1, 8)) * PAGE_BYTES + within,
-        93..=95 => rng.below(frames.clamp(1, 8) + 1) * PAGE_BYTES + within,
+        93..=94 => rng.below(frames.clamp(1, 8) + 1) * PAGE_BYTES + within,
+        // The last byte: of the uncached frames, of memory, of the ordinary addresses.
+        95..=96 => {
+            width = 1;
+            let cached_end = PREFIX1 + frames.clamp(1, 8) * PAGE_BYTES;
+            rng.pick(&[uncached.clamp(1, 8) * PAGE_BYTES, cached_end, PAGE_TABLE]) - 1
+        }
         _ => {
             let at = rng.pick(&[
                 PREFIX1 - 4,

@@ -199,6 +199,11 @@ fn write_trace(file: &str, words: &str, trace: &Trace) -> Result<String, String>
 fn report(fails: Fails, trace: Trace, difference: Difference) -> Result<String, String> {
     let found = trace.steps.len();
     eprintln!("hostile: difference at step {found} of a run: {}", difference.text);
+    if run::quietly(|| fails(&trace)).is_none() {
+        write_trace(TRACE_FILE, &difference.text, &trace)?;
+        let text = difference.text;
+        return Ok(format!("{text}; but its run alone, in {TRACE_FILE}, does not fail: the same seed and calls do"));
+    }
     let (trace, difference) = shrink::shrink(fails, trace, difference);
     let text = write_trace(TRACE_FILE, &difference.text, &trace)?;
     let left = trace.steps.len();

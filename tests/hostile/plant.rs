@@ -30,9 +30,10 @@ pub enum Plant {
     TwoCopies,
     Panic,
     Signal,
+    Hang,
 }
 
-pub const PLANTS: [(Plant, &str); 22] = [
+pub const PLANTS: [(Plant, &str); 23] = [
     (Plant::Number, "number"),
     (Plant::Value, "value"),
     (Plant::Mark, "mark"),
@@ -55,6 +56,7 @@ pub const PLANTS: [(Plant, &str); 22] = [
     (Plant::TwoCopies, "two-copies"),
     (Plant::Panic, "panic"),
     (Plant::Signal, "signal"),
+    (Plant::Hang, "hang"),
 ];
 
 /// Flips the lowest bit of a buffer's last element, if it has one.
@@ -81,7 +83,7 @@ impl Plant {
             Plant::PlainNumber | Plant::PlainValue | Plant::PlainMemory => Kind::Plain,
             Plant::TwoCopies => Kind::TwoCopies,
             Plant::Panic => Kind::Panic,
-            Plant::Signal => Kind::Signal,
+            Plant::Signal | Plant::Hang => Kind::Signal,
         }
     }
 
@@ -112,6 +114,9 @@ impl Plant {
             (Plant::Canary, Event::FoundHeld) => real.cache.break_canary(false),
             (Plant::Panic, Event::Mapped { by_prefix1: 1.., .. }) => panic!("a planted panic"),
             (Plant::Signal, Event::Unmapped { written: 1.., .. }) => std::process::abort(),
+            (Plant::Hang, Event::Unmapped { written: 1.., .. }) => loop {
+                std::thread::yield_now();
+            },
             _ => {}
         }
     }

@@ -2,6 +2,7 @@
 //! crate. Each brings one call, or one look, to the board of `Real`.
 
 use crate::guarded::Real;
+use crate::limits::{FRAMES_MAX, LINES_MAX, LINE_BYTES, PROCESSES_MAX};
 use model::{Answer, Call, Shape};
 use oaledva::{ffi, Lent, Refusal};
 
@@ -119,6 +120,7 @@ struct CAnswer {
 #[link(name = "through", kind = "static")]
 extern "C" {
     fn through_board_bytes() -> usize;
+    fn through_constants(constants: *mut [usize; 18]);
     fn through_lengths(frames: usize, processes: usize, lines: usize, lengths: *mut [usize; 5]);
     fn through_user_access(b: *mut CBoard, process: usize, store: u32, width: u32, at: u32, value: u32) -> CAnswer;
     fn through_supervisor_access(b: *mut CBoard, store: u32, width: u32, address: u64, value: u32) -> CAnswer;
@@ -135,11 +137,42 @@ extern "C" {
     fn through_look_number(b: *mut CBoard, line: usize) -> u32;
 }
 
-/// What the header says of sizes, against the mirror above and the model's fresh board. Gives what disagrees.
+/// The refusal numbers by the names of the Rust crate, from 0 (done) to 13, then the limits, by 01.
+fn constants() -> [usize; 18] {
+    let refusals = [
+        Refusal::Shape,
+        Refusal::Range,
+        Refusal::Tag,
+        Refusal::Alignment,
+        Refusal::Kernel,
+        Refusal::SlotEmpty,
+        Refusal::SlotReadOnly,
+        Refusal::NotMapped,
+        Refusal::PageReadOnly,
+        Refusal::FrameInUse,
+        Refusal::MappedAlready,
+        Refusal::Outside,
+        Refusal::OtherLine,
+    ];
+    let mut all = [0; 18];
+    for (at, refusal) in (1..).zip(refusals) {
+        all[at] = refusal.number() as usize;
+    }
+    all[14..].copy_from_slice(&[FRAMES_MAX, PROCESSES_MAX, LINES_MAX, LINE_BYTES].map(|limit| limit as usize));
+    all
+}
+
+/// What the header says of sizes and numbers, against the mirror above and the model's fresh board. Gives what disagrees.
 pub fn header_disagrees() -> Option<String> {
     let (theirs, ours) = (unsafe { through_board_bytes() }, std::mem::size_of::<CBoard>());
     if theirs != ours {
         return Some(format!("oaledva_board has {theirs} bytes, the test's mirror of it {ours}"));
+    }
+    let mut theirs = [0; 18];
+    unsafe { through_constants(&mut theirs) };
+    let ours = constants();
+    if theirs != ours {
+        return Some(format!("the header's refusal numbers and limits are {theirs:?}, 01's {ours:?}"));
     }
     let fresh = model::Board::fresh(Shape { frames: 3, uncached: 1, processes: 2, lines: 8 }).lengths();
     let ours = [fresh.slots, fresh.words, fresh.records, fresh.cache, fresh.memory].map(|length| length as usize);

@@ -88,6 +88,7 @@ pub struct Run {
 impl Run {
     pub fn new(start: &Start, plant: Option<Plant>) -> Run {
         apart::record_start(start, plant);
+        apart::begin();
         let model = start.board.clone();
         Run {
             fresh: start.fresh,

@@ -1,6 +1,7 @@
 //! Shows that the test can fail: each planted fault is found, shrinks to a short trace, and the trace, written and read back,
 //! gives the same difference, and none without the fault. And each thing to be reached is missed if it is not reached.
 
+use crate::apart::End;
 use crate::coverage::Coverage;
 use crate::guarded::Real;
 use crate::pairs::{self, Failure};
@@ -19,11 +20,13 @@ const CALLS: u64 = 40_000;
 const STEPS: usize = 8;
 
 pub fn all() -> Result<(), String> {
-    for (plant, name) in PLANTS {
+    for (plant, name) in PLANTS.into_iter().filter(|(plant, _)| *plant != Plant::Hang) {
         let (found, left) =
             quietly(|| planted(plant)).map_err(|problem| format!("planted fault '{name}': {problem}"))?;
         println!("planted fault {name:13} found at step {found:3} of its run, shrunk to {left} steps, replayed");
     }
+    hang()?;
+    println!("planted fault hang          ended by a signal");
     planted_pair()?;
     println!("planted fault in a pair of runs found");
     canaries()?;
@@ -77,6 +80,18 @@ fn recorded(find: impl FnOnce() -> Result<(), Failure>) -> Result<(Trace, Differ
     let found = apart::recorded(file, || i32::from(find().is_err()));
     std::fs::remove_file(file).map_err(|error| format!("cannot remove {file}: {error}"))?;
     found
+}
+
+/// A call that never returns must be ended.
+fn hang() -> Result<(), String> {
+    let end = apart::child(|| {
+        apart::limit_runs(1);
+        i32::from(search(&mut Rng::new(7), CALLS, Some(Plant::Hang), &mut Coverage::new()).is_err())
+    });
+    match end? {
+        End::Signal(apart::ALARM) => Ok(()),
+        _ => Err("planted fault 'hang': not ended by the alarm".into()),
+    }
 }
 
 fn planted_pair() -> Result<(), String> {

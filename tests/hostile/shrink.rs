@@ -5,9 +5,11 @@ use crate::routes::{Manner, Route};
 use crate::run::{quietly, Difference};
 use crate::trace::Trace;
 use model::{Board, NO_TAG};
+use std::time::Instant;
 
-/// At most so many runs are spent.
+/// At most so many runs are spent, and not much more than so many seconds.
 const BUDGET: u32 = 3000;
+const SECONDS: u64 = 150;
 
 /// Where a trace first differs, and how.
 pub type Fails = fn(&Trace) -> Option<(usize, Difference)>;
@@ -17,10 +19,11 @@ struct Shrinker {
     best: Trace,
     difference: Difference,
     budget: u32,
+    began: Instant,
 }
 
 pub fn shrink(fails: Fails, trace: Trace, difference: Difference) -> (Trace, Difference) {
-    let mut shrinker = Shrinker { fails, best: trace, difference, budget: BUDGET };
+    let mut shrinker = Shrinker { fails, best: trace, difference, budget: BUDGET, began: Instant::now() };
     quietly(|| {
         shrinker.drop_steps();
         shrinker.simplify_manners();
@@ -33,7 +36,7 @@ pub fn shrink(fails: Fails, trace: Trace, difference: Difference) -> (Trace, Dif
 impl Shrinker {
     /// Takes the edited trace if it fails in the same way.
     fn takes(&mut self, edit: impl FnOnce(&mut Trace)) -> bool {
-        if self.budget == 0 {
+        if self.budget == 0 || self.began.elapsed().as_secs() > SECONDS {
             return false;
         }
         self.budget -= 1;

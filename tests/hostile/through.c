@@ -22,6 +22,17 @@ void through_lengths(size_t frames, size_t processes, size_t lines, size_t lengt
     lengths[4] = OALEDVA_MEMORY(frames);
 }
 
+/* The refusal numbers by their names, 0 to 13, then the limits. */
+void through_constants(size_t constants[18]) {
+    static const size_t all[18] = {
+        OALEDVA_DONE, OALEDVA_SHAPE, OALEDVA_RANGE, OALEDVA_TAG, OALEDVA_ALIGNMENT, OALEDVA_KERNEL, OALEDVA_SLOT_EMPTY,
+        OALEDVA_SLOT_READ_ONLY, OALEDVA_NOT_MAPPED, OALEDVA_PAGE_READ_ONLY, OALEDVA_FRAME_IN_USE,
+        OALEDVA_MAPPED_ALREADY, OALEDVA_OUTSIDE, OALEDVA_OTHER_LINE, OALEDVA_FRAMES_MAX, OALEDVA_PROCESSES_MAX,
+        OALEDVA_LINES_MAX, OALEDVA_LINE_BYTES,
+    };
+    for (int i = 0; i < 18; i++) constants[i] = all[i];
+}
+
 through_answer through_user_access(oaledva_board *b, size_t process, uint32_t store, uint32_t width, uint32_t address,
                                    uint32_t value) {
     return unpacked(

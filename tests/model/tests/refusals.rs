@@ -37,6 +37,16 @@ fn check(start: &Board, call: Call, rows: &[Row]) {
     }
 }
 
+/// Gives a field of the call this value.
+macro_rules! with {
+    ($call:ident, $field:ident = $value:expr) => {
+        |_, call| match call {
+            Call::$call { $field, .. } => *$field = $value,
+            _ => unreachable!(),
+        }
+    };
+}
+
 const ONE: Row = (1, |b, _| b.cache.push(0));
 const PENDING: Row = (3, |b, _| b.tag = (true, 0x2000_0000));
 const NOT_PENDING: Row = (3, |b, _| b.tag.0 = false);
@@ -179,21 +189,9 @@ fn supervisor_prefix_1() {
                         }
                         b.words.fill(2)
                     }),
-                    (12, |_, c| {
-                        if let Call::SupervisorAccess { global, .. } = c {
-                            *global = 0x1_0000_0000
-                        }
-                    }),
-                    (12, |_, c| {
-                        if let Call::SupervisorAccess { global, .. } = c {
-                            *global = 0x1_0000_4000
-                        }
-                    }),
-                    (12, |_, c| {
-                        if let Call::SupervisorAccess { global, .. } = c {
-                            *global = 0x1_FFFF_FFF0
-                        }
-                    }),
+                    (12, with!(SupervisorAccess, global = 0x1_0000_0000)),
+                    (12, with!(SupervisorAccess, global = 0x1_0000_4000)),
+                    (12, with!(SupervisorAccess, global = 0x1_FFFF_FFF0)),
                 ],
             );
         }
@@ -230,21 +228,9 @@ fn supervisor_prefix_0() {
                     (2, global_high),
                     (4, width),
                     (4, crooked),
-                    (12, |_, c| {
-                        if let Call::SupervisorAccess { global, .. } = c {
-                            *global = 0x1000
-                        }
-                    }),
-                    (12, |_, c| {
-                        if let Call::SupervisorAccess { global, .. } = c {
-                            *global = 0x4000
-                        }
-                    }),
-                    (12, |_, c| {
-                        if let Call::SupervisorAccess { global, .. } = c {
-                            *global = 0xFFFF_FFFC
-                        }
-                    }),
+                    (12, with!(SupervisorAccess, global = 0x1000)),
+                    (12, with!(SupervisorAccess, global = 0x4000)),
+                    (12, with!(SupervisorAccess, global = 0xFFFF_FFFC)),
                 ],
             );
         }
@@ -276,21 +262,9 @@ fn attach() {
         (2, process_huge),
         (2, slot),
         (2, slot_huge),
-        (2, |_, c| {
-            if let Call::Attach { segment, .. } = c {
-                *segment = 2047
-            }
-        }),
-        (2, |_, c| {
-            if let Call::Attach { segment, .. } = c {
-                *segment = 4_190_208
-            }
-        }),
-        (2, |_, c| {
-            if let Call::Attach { segment, .. } = c {
-                *segment = u64::MAX
-            }
-        }),
+        (2, with!(Attach, segment = 2047)),
+        (2, with!(Attach, segment = 4_190_208)),
+        (2, with!(Attach, segment = u64::MAX)),
     ];
     for write in [false, true] {
         let call = Call::Attach { process: 1, slot: 511, segment: 4_190_207, write };
@@ -314,21 +288,9 @@ fn map() {
     let mut rows: Vec<Row> = vec![ONE];
     rows.extend(PAGES);
     rows.extend::<[Row; 3]>([
-        (2, |_, c| {
-            if let Call::Map { frame, .. } = c {
-                *frame = 0
-            }
-        }),
-        (2, |_, c| {
-            if let Call::Map { frame, .. } = c {
-                *frame = 4
-            }
-        }),
-        (2, |_, c| {
-            if let Call::Map { frame, .. } = c {
-                *frame = u64::MAX
-            }
-        }),
+        (2, with!(Map, frame = 0)),
+        (2, with!(Map, frame = 4)),
+        (2, with!(Map, frame = u64::MAX)),
     ]);
     rows.extend::<[Row; 4]>([
         (10, |b, _| b.words[2] = 0x20_0001 * 4 + 3),
