@@ -8,7 +8,7 @@ use native.Mathlib.Omega.{arith}
 use lib.ListN.{length}
 use lib.Dec.{ltb}
 use borrow.Author.Tests.{ltb-true, not-false, lt-ltb, le-ltb}
-use Rattle.board.specs.Shapes.{fitsShape}
+use Rattle.board.specs.Shapes.{maxLines, fitsShape}
 use Rattle.board.specs.declared.Shape.{Shape}
 use Rattle.board.specs.declared.Pending.{Pending}
 use Rattle.board.specs.declared.Found.{Found}
@@ -28,7 +28,7 @@ use Rattle.oaledva.specs.Lends.{placeBy, lookPlace, bytesAt, PlaceIsLook
 
 -- the return of place_of_line
 module _ (s : Shape) (r c m : List ℕ) (line : ℕ) (found : Found) (e : found ≡ keeperOf 1 s r line) where
-  pub kept-below : (i : ℕ) → found ≡ At i → Sized s r c m → i < 32768
+  pub kept-below : (i : ℕ) → found ≡ At i → Sized s r c m → i < maxLines
   kept-below i k z = let y = keeper-inside s r line i found e k in omega arith
 
   pub place-kept : (i : ℕ) → found ≡ At i → 16 * i ≡ placeBy line (keeperOf 1 s r line)

@@ -5,6 +5,7 @@ use mathlib.Core.Bool.{Bool, true, false, _||_, cond}
 use mathlib.Core.List.{List, [], _∷_}
 use lib.Dec.{eqb}
 use borrow.Author.Tests.{eqb-true, eqb-false}
+use Rattle.address.specs.Layout.{pageLines}
 use Rattle.board.specs.Pages.{mappedTo}
 use Rattle.board.specs.declared.Shape.{Shape}
 use Rattle.board.specs.declared.Found.the-variants.{At}
@@ -32,7 +33,7 @@ pub record PlainSame (s : Shape) (p : Plain) (ks ls : List Call) (process : ℕ)
   pub same-replies : plainRepliesTo process s p ks ≡ plainRepliesTo process s p ls
   pub same-words : plainAfter s p ks .words ≡ plainAfter s p ls .words
   pub same-bytes : (page frame line : ℕ) → plainEver (λ slots. holds slots process (segmentOfPage page)) s p ks ≡ true
-      → mappedTo s (plainAfter s p ks .words) page ≡ At frame → line / 256 ≡ frame
+      → mappedTo s (plainAfter s p ks .words) page ≡ At frame → line / pageLines ≡ frame
       → plainLook s (plainAfter s p ks) line ≡ plainLook s (plainAfter s p ls) line
 
 -- ---- moments

@@ -10,6 +10,7 @@ use native.Mathlib.Omega.{arith}
 use lib.Dec.{eqb, ltb}
 use lib.ListN.{length, getD, List·getD-eq-default}
 use borrow.Author.Tests.{eqb-true, ltb-true, ltb-false, eq-eqb, lt-ltb}
+use Rattle.address.specs.Layout.{pageLines}
 use Rattle.board.specs.declared.Shape.{Shape}
 use Rattle.board.specs.declared.Found.the-variants.{At, Nothing}
 use Rattle.board.specs.declared.Home.{Home}
@@ -30,7 +31,7 @@ module _ (ways : ℕ) (s : Shape) (i : ℕ) where
     unfolding holdsLine
     holds-place = eqb-true _ _ (and-left (eqb (i / ways) (placeOf ways s (l .name))) _ (and-right (l .valid) _ h))
 
-    holds-in : l .physical < 256 * s .frames
+    holds-in : l .physical < pageLines * s .frames
     unfolding holdsLine
     holds-in = ltb-true _ _ (and-right (eqb (i / ways) (placeOf ways s (l .name))) _ (and-right (l .valid) _ h))
 
@@ -38,7 +39,7 @@ module _ (ways : ℕ) (s : Shape) (i : ℕ) where
   unfolding holdsLine
   holds-none = refl
 
-  pub holds-new : (name p : ℕ) (w : Bool) → i / ways ≡ placeOf ways s name → p < 256 * s .frames → holdsLine ways s i (newLine name p w) ≡ true
+  pub holds-new : (name p : ℕ) (w : Bool) → i / ways ≡ placeOf ways s name → p < pageLines * s .frames → holdsLine ways s i (newLine name p w) ≡ true
   unfolding holdsLine
   holds-new name p w a b = rw (eq-eqb _ _ a, lt-ltb _ _ b)
 
@@ -51,7 +52,7 @@ module _ (ways : ℕ) (s : Shape) (r : List ℕ) (i : ℕ) where
   unfolding holdsAt
   held-place h = holds-place ways s i (lineAt r i) h
 
-  pub held-in : holdsAt ways s r i ≡ true → lineAt r i .physical < 256 * s .frames
+  pub held-in : holdsAt ways s r i ≡ true → lineAt r i .physical < pageLines * s .frames
   unfolding holdsAt
   held-in h = holds-in ways s i (lineAt r i) h
 

@@ -10,7 +10,7 @@ use lib.Dec.{eqb, leb, ltb}
 use lib.ListN.{length, getD, set, drop, drop-of-length-le, length-set}
 use lib.Seq.{drop-cons, getD-set-same, getD-set-other}
 use borrow.Author.Tests.{eqb-true, eqb-false, ltb-true, leb-true, eq-eqb, ne-eqb}
-use Rattle.address.specs.Layout.{firstPage}
+use Rattle.address.specs.Layout.{firstPage, pageLines, prefixLines}
 use Rattle.address.specs.Addresses.{ordinaryPage}
 use Rattle.board.specs.Pages.{frameWord, namesPage, wordWrites, lowestFrom, lowestFrame, mappedTo, freeFrame, directHome, homeBy, homeOf}
 use Rattle.board.specs.declared.Shape.{Shape}
@@ -151,48 +151,48 @@ module _ (s : Shape) (words : List ℕ) (page f w : ℕ) (b : f < length words) 
 -- ---- the home of a name
 
 module _ (s : Shape) (words : List ℕ) (name : ℕ) where
-  pub mapped-home : (f : ℕ) → mappedTo s words (name / 256) ≡ At f → homeOf s words name ≡ Line (f * 256 + name % 256) (wordWrites (getD words f 0))
+  pub mapped-home : (f : ℕ) → mappedTo s words (name / pageLines) ≡ At f → homeOf s words name ≡ Line (f * pageLines + name % pageLines) (wordWrites (getD words f 0))
   mapped-home f h = sym (home-at s words name (At f) (sym h) f _ refl refl)
 
   -- an ordinary page that is not mapped
-  pub unmapped-home : ordinaryPage (name / 256) ≡ true → mappedTo s words (name / 256) ≡ Nothing → homeOf s words name ≡ Nowhere
+  pub unmapped-home : ordinaryPage (name / pageLines) ≡ true → mappedTo s words (name / pageLines) ≡ Nothing → homeOf s words name ≡ Nowhere
   unmapped-home o h =
-      let l = ordinary-low (name / 256) o in
+      let l = ordinary-low (name / pageLines) o in
       sym (home-direct s words name Nothing (sym h) Nowhere refl (direct-other s words name (omega arith)))
 
 -- what a home says: the name is its physical line under prefix 1, of a free frame, or the word of a frame names the page
 pub data Homed (s : Shape) (words : List ℕ) (n p : ℕ) (w : Bool) : Type 0 where
-  direct : n ≡ 2 ^ 28 + p → p < 2 ^ 28 → s .uncached ≤ p / 256 → p / 256 < s .frames → getD words (p / 256) 0 ≡ 0 → w ≡ true → Homed s words n p w
-  mapped : ordinaryPage (n / 256) ≡ true → p % 256 ≡ n % 256 → s .uncached ≤ p / 256 → p / 256 < length words
-      → getD words (p / 256) 0 / 4 ≡ n / 256 → getD words (p / 256) 0 % 2 ≡ 1 → w ≡ wordWrites (getD words (p / 256) 0) → Homed s words n p w
+  direct : n ≡ prefixLines + p → p < prefixLines → s .uncached ≤ p / pageLines → p / pageLines < s .frames → getD words (p / pageLines) 0 ≡ 0 → w ≡ true → Homed s words n p w
+  mapped : ordinaryPage (n / pageLines) ≡ true → p % pageLines ≡ n % pageLines → s .uncached ≤ p / pageLines → p / pageLines < length words
+      → getD words (p / pageLines) 0 / 4 ≡ n / pageLines → getD words (p / pageLines) 0 % 2 ≡ 1 → w ≡ wordWrites (getD words (p / pageLines) 0) → Homed s words n p w
 
 module _ (s : Shape) (words : List ℕ) (n p : ℕ) (w : Bool) where
   homed-direct : directHome s words n ≡ Line p w → Homed s words n p w
   unfolding directHome freeFrame
   homed-direct h =
-      let z = if-line _ (n % 2 ^ 28) p w h in
-      let one = eqb-true (n / 2 ^ 28) 1 (and-left (eqb (n / 2 ^ 28) 1) _ (z .0)) in
-      let a = and-right (eqb (n / 2 ^ 28) 1) _ (z .0) in
-      let q = and-right (leb (s .uncached) (n % 2 ^ 28 / 256)) _ a in
-      let low = leb-true (s .uncached) (n % 2 ^ 28 / 256) (and-left (leb (s .uncached) (n % 2 ^ 28 / 256)) _ a) in
-      let high = ltb-true (n % 2 ^ 28 / 256) (s .frames) (and-left (ltb (n % 2 ^ 28 / 256) (s .frames)) _ q) in
-      let free = eqb-true (getD words (n % 2 ^ 28 / 256) 0) 0 (and-right (ltb (n % 2 ^ 28 / 256) (s .frames)) _ q) in
-      let e : n % 2 ^ 28 ≡ p = z .1 .0 in
+      let z = if-line _ (n % prefixLines) p w h in
+      let one = eqb-true (n / prefixLines) 1 (and-left (eqb (n / prefixLines) 1) _ (z .0)) in
+      let a = and-right (eqb (n / prefixLines) 1) _ (z .0) in
+      let q = and-right (leb (s .uncached) (n % prefixLines / pageLines)) _ a in
+      let low = leb-true (s .uncached) (n % prefixLines / pageLines) (and-left (leb (s .uncached) (n % prefixLines / pageLines)) _ a) in
+      let high = ltb-true (n % prefixLines / pageLines) (s .frames) (and-left (ltb (n % prefixLines / pageLines) (s .frames)) _ q) in
+      let free = eqb-true (getD words (n % prefixLines / pageLines) 0) 0 (and-right (ltb (n % prefixLines / pageLines) (s .frames)) _ q) in
+      let e : n % prefixLines ≡ p = z .1 .0 in
       direct (omega arith) (omega arith) (rw e at low) (rw e at high) (rw e at free) (z .1 .1)
 
-  homed-by : (found : Found) → mappedTo s words (n / 256) ≡ found → homeBy s words n found ≡ Line p w → Homed s words n p w
+  homed-by : (found : Found) → mappedTo s words (n / pageLines) ≡ found → homeBy s words n found ≡ Line p w → Homed s words n p w
   unfolding homeBy
   homed-by (At f) e h =
-      let a = mapped-frame s words (n / 256) f e in
-      let q : f * 256 + n % 256 ≡ p = cc in
+      let a = mapped-frame s words (n / pageLines) f e in
+      let q : f * pageLines + n % pageLines ≡ p = cc in
       let r : wordWrites (getD words f 0) ≡ w = cc in
-      let k : p / 256 ≡ f = omega arith in
+      let k : p / pageLines ≡ f = omega arith in
       mapped (a .ordinary) (omega arith) (rw k (a .from)) (rw k (a .inside)) (rw k (a .page-is)) (rw k (a .odd)) (rw k (sym r))
   homed-by Nothing e h = homed-direct h
 
   pub homed : homeOf s words n ≡ Line p w → Homed s words n p w
   unfolding homeOf
-  homed h = homed-by (mappedTo s words (n / 256)) refl h
+  homed h = homed-by (mappedTo s words (n / pageLines)) refl h
 
 -- no two names share a home
 homed-apart : (s : Shape) (words : List ℕ) (n m p : ℕ) (w v : Bool) → Homed s words n p w → Homed s words m p v → n ≡ m
@@ -201,12 +201,12 @@ homed-apart s words n m p w v (direct a b c d e f) (mapped a′ b′ c′ d′ e
 homed-apart s words n m p w v (mapped a b c d e f h) (direct a′ b′ c′ d′ e′ f′) = absurd (omega arith)
 homed-apart s words n m p w v (mapped a b c d e f h) (mapped a′ b′ c′ d′ e′ f′ h′) = omega arith
 
-homed-above : (s : Shape) (words : List ℕ) (n p : ℕ) (w : Bool) → Homed s words n p w → s .uncached ≤ p / 256
+homed-above : (s : Shape) (words : List ℕ) (n p : ℕ) (w : Bool) → Homed s words n p w → s .uncached ≤ p / pageLines
 homed-above s words n p w (direct a b c d e f) = c
 homed-above s words n p w (mapped a b c d e f h) = c
 
 -- a home lies in the frames from U up
-pub home-above : (s : Shape) (words : List ℕ) (n p : ℕ) (w : Bool) → homeOf s words n ≡ Line p w → s .uncached ≤ p / 256
+pub home-above : (s : Shape) (words : List ℕ) (n p : ℕ) (w : Bool) → homeOf s words n ≡ Line p w → s .uncached ≤ p / pageLines
 home-above s words n p w h = homed-above s words n p w (homed s words n p w h)
 
 pub homes-map : (s : Shape) (words : List ℕ) → length words ≡ s .frames → Homes s (homeOf s words)
@@ -218,28 +218,28 @@ homes-map s words z = record {
 -- ---- the home of a name after the word of a frame is changed
 
 module _ (s : Shape) (words : List ℕ) (f w name p : ℕ) (x : Bool) (b : f < length words) (h : homeOf s words name ≡ Line p x) where
-  home-by-set : (found : Found) → homeBy s words name found ≡ Line p x → p / 256 ≢ f → homeBy s (set words f w) name found ≡ Line p x
+  home-by-set : (found : Found) → homeBy s words name found ≡ Line p x → p / pageLines ≢ f → homeBy s (set words f w) name found ≡ Line p x
   unfolding homeBy directHome freeFrame
   home-by-set (At g) e n =
-      let a : g * 256 + name % 256 ≡ p = cc in
+      let a : g * pageLines + name % pageLines ≡ p = cc in
       let k : g ≢ f = omega arith in
       rw (getD-set-other words f g w 0 k) e
   home-by-set Nothing e n =
-      let a = if-line (eqb (name / 2 ^ 28) 1 && freeFrame s words (name % 2 ^ 28 / 256)) (name % 2 ^ 28) p x e .1 .0 in
-      let k : name % 2 ^ 28 / 256 ≢ f = rw a n in
-      rw (getD-set-other words f (name % 2 ^ 28 / 256) w 0 k) e
+      let a = if-line (eqb (name / prefixLines) 1 && freeFrame s words (name % prefixLines / pageLines)) (name % prefixLines) p x e .1 .0 in
+      let k : name % prefixLines / pageLines ≢ f = rw a n in
+      rw (getD-set-other words f (name % prefixLines / pageLines) w 0 k) e
 
   -- a home in another frame, of a page that the word did not name and does not name now
-  pub home-set : p / 256 ≢ f → namesPage (getD words f 0) (name / 256) ≡ false → namesPage w (name / 256) ≡ false → homeOf s (set words f w) name ≡ Line p x
+  pub home-set : p / pageLines ≢ f → namesPage (getD words f 0) (name / pageLines) ≡ false → namesPage w (name / pageLines) ≡ false → homeOf s (set words f w) name ≡ Line p x
   unfolding homeOf
-  home-set n y z = rw (mapped-set s words (name / 256) f w b y z) (home-by-set (mappedTo s words (name / 256)) h n)
+  home-set n y z = rw (mapped-set s words (name / pageLines) f w b y z) (home-by-set (mappedTo s words (name / pageLines)) h n)
 
   -- a home of another page than the frame's is in another frame, and stays when the word comes to name no other page
-  pub home-elsewhere : (page : ℕ) → getD words f 0 / 4 ≡ page → getD words f 0 % 2 ≡ 1 → name / 256 ≢ page → (w / 4 ≡ name / 256 → w % 2 ≡ 1 → ⊥)
+  pub home-elsewhere : (page : ℕ) → getD words f 0 / 4 ≡ page → getD words f 0 % 2 ≡ 1 → name / pageLines ≢ page → (w / 4 ≡ name / pageLines → w % 2 ≡ 1 → ⊥)
       → homeOf s (set words f w) name ≡ Line p x
   home-elsewhere page here odd n y =
       home-set (λ q. go (homed s words name p x h) q) (word-names-not _ _ (λ a _. n (sym a ∙ here))) (word-names-not _ _ y)
     where
-      go : Homed s words name p x → p / 256 ≢ f
+      go : Homed s words name p x → p / pageLines ≢ f
       go (direct a c d e o _) q = let z = rw q at o in absurd (omega arith)
       go (mapped a c d e o i _) q = let z = rw q at o in n (sym z ∙ here)

@@ -6,6 +6,7 @@ use mathlib.Core.Bool.{Bool, true, false, cond}
 use mathlib.Core.List.{List}
 use native.Mathlib.Nat.{mod-lt, div-one, add-assoc}
 use native.Mathlib.Omega.{arith}
+use Rattle.address.specs.Layout.{pageLines}
 use Rattle.address.specs.Addresses.{nameOf}
 use Rattle.address.specs.declared.Global.{Global}
 use Rattle.board.specs.Pages.{homeOf}
@@ -30,7 +31,7 @@ use Rattle.promises.proofs.Steps.{sim-stored, sim-inserted, inserted-li
 -- ---- look
 
 -- the current bytes of a physical line are the flat memory's
-module _ {ways : ℕ} {s : Shape} {home : ℕ → Home} {x : Store} {m : List ℕ} (sim : Sim ways s home x m) (p : ℕ) (b : p < 256 * s .frames) where
+module _ {ways : ℕ} {s : Shape} {home : ℕ → Home} {x : Store} {m : List ℕ} (sim : Sim ways s home x m) (p : ℕ) (b : p < pageLines * s .frames) where
   look-by : (f : Found) → keeperOf ways s (x .records) p ≡ f → currentBy (x .cache) (x .memory) p f ≡ lineOf m p
   unfolding currentBy
   look-by (At i) h =

@@ -8,7 +8,7 @@ use native.Mathlib.Omega.{arith}
 use lib.ListN.{length, getD}
 use lib.Dec.{leb, ltb}
 use borrow.Author.Tests.{not-false, leb-true, leb-false, ltb-true, le-leb}
-use Rattle.address.specs.Layout.{firstPage, lastPage, firstSegment, lastSegment}
+use Rattle.address.specs.Layout.{firstPage, lastPage, firstSegment, lastSegment, pageLines, prefixLines}
 use Rattle.address.specs.Addresses.{attachable, ordinaryPage, pageOf, nameOf, regionOf, physicalOf}
 use Rattle.address.specs.declared.Effective.{Effective}
 use Rattle.address.specs.declared.Global.{Global}
@@ -86,15 +86,15 @@ module _ (s : Shape) (b : Board) (m : List ℕ) (fits : fitsBoard s b ≡ true) 
         (plainAccess (plainOf b m) (foundFrame found * 4096 + g .0 % 4096) a))
     unfolding byTable isMapped foundFrame
     related-line user Nothing o q =
-        let z : g .0 / 16 / 256 ≡ g .0 / 4096 = omega arith in
+        let z : g .0 / 16 / pageLines ≡ g .0 / 4096 = omega arith in
         let h = unmapped-home s (b .words) (nameOf g) (rw z o) (rw z q) in
         rw (way-nowhere s (b .words) x g h) (related-refused s b m x 8)
     related-line user (At f) o q =
-        let z : g .0 / 16 / 256 ≡ g .0 / 4096 = omega arith in
+        let z : g .0 / 16 / pageLines ≡ g .0 / 4096 = omega arith in
         let h = mapped-home s (b .words) (nameOf g) f (rw z q) in
         rw (way-reached s (b .words) x g _ _ h, way-writes s (b .words) x g _ _ h)
         (related-row s b m x 9 (user && (a .store && not (wordWrites (getD (b .words) f 0)))) _ _
-        (λ _. related-access (f * 256 + nameOf g % 256) (wordWrites (getD (b .words) f 0)) (f * 4096 + g .0 % 4096) h (omega arith)))
+        (λ _. related-access (f * pageLines + nameOf g % pageLines) (wordWrites (getD (b .words) f 0)) (f * 4096 + g .0 % 4096) h (omega arith)))
 
   -- ---- a user access
 
@@ -153,7 +153,7 @@ module _ (s : Shape) (b : Board) (m : List ℕ) (fits : fitsBoard s b ≡ true) 
         related-row s b m x 10 (wordInUse (b .words) (frameUnder g)) _ _ λ h.
         related-row s b m x 12 (leb (s .frames) (frameUnder g) || ltb (frameUnder g) (s .uncached)) _ _ λ k.
         let c = region-cached g q in
-        related-access g a inside (nameOf g % 2 ^ 28) true (physicalOf g .0) (sym (prefix-home s (b .words) g c h k)) (omega arith)
+        related-access g a inside (nameOf g % prefixLines) true (physicalOf g .0) (sym (prefix-home s (b .words) g c h k)) (omega arith)
     related-region Ordinary q =
         related-line g a inside false (mappedTo s (b .words) (pageOf g)) (region-ordinary g q below) refl
 

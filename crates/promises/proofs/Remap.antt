@@ -10,7 +10,9 @@ use lib.Dec.{eqb}
 use lib.ListN.{length, getD, set}
 use lib.Seq.{getD-set-same}
 use borrow.Author.Tests.{eqb-true, eqb-false, ne-eqb}
+use Rattle.address.specs.Layout.{pageLines}
 use Rattle.address.specs.Addresses.{ordinaryPage}
+use Rattle.board.specs.Shapes.{maxFrames}
 use Rattle.board.specs.Pages.{frameWord, mappedTo, homeOf, directPage}
 use Rattle.board.specs.declared.Shape.{Shape}
 use Rattle.board.specs.declared.Found.the-variants.{At, Nothing}
@@ -61,14 +63,14 @@ module _ (ways : ℕ) (s : Shape) (words : List ℕ) (x : Store) (m : List ℕ) 
     gone = visitedAll ways s (Unmap page) x
 
     -- a line that is still held is of another page
-    unmapped-name : (j : ℕ) → holdsAt ways s (gone .records) j ≡ true → lineAt (gone .records) j .name / 256 ≢ page
+    unmapped-name : (j : ℕ) → holdsAt ways s (gone .records) j ≡ true → lineAt (gone .records) j .name / pageLines ≢ page
     unfolding fate fateOf selects
     unmapped-name j h =
         let r = swept-line ways s (Unmap page) x j (sim .record-count) (swept-below (Unmap page) j h) in
-        go (holdsLine ways s j (line j)) (eqb (line j .name / 256) page) refl refl r
+        go (holdsLine ways s j (line j)) (eqb (line j .name / pageLines) page) refl refl r
       where
-        go : (t u : Bool) → holdsLine ways s j (line j) ≡ t → eqb (line j .name / 256) page ≡ u → lineAt (gone .records) j ≡ cond (t && u) noLine (line j)
-            → lineAt (gone .records) j .name / 256 ≢ page
+        go : (t u : Bool) → holdsLine ways s j (line j) ≡ t → eqb (line j .name / pageLines) page ≡ u → lineAt (gone .records) j ≡ cond (t && u) noLine (line j)
+            → lineAt (gone .records) j .name / pageLines ≢ page
         go true true t u r = clash _ h (held-line ways s (gone .records) j noLine r ∙ holds-none ways s j)
         go true false t u r = rw r (eqb-false _ _ u)
         go false u t v r = clash _ h (held-line ways s (gone .records) j (line j) r ∙ t)
@@ -97,14 +99,14 @@ module _ (ways : ℕ) (s : Shape) (words : List ℕ) (x : Store) (m : List ℕ) 
     abbrev words′ : List ℕ
     words′ = set words f (frameWord page write)
 
-    relabelled : (j : ℕ) → holdsAt ways s (safe .records) j ≡ true → (t u : Bool) → held j ≡ t → eqb (line j .name / 256) page ≡ u
+    relabelled : (j : ℕ) → holdsAt ways s (safe .records) j ≡ true → (t u : Bool) → held j ≡ t → eqb (line j .name / pageLines) page ≡ u
         → lineAt (safe .records) j ≡ cond (t && u) (permittedLine (line j) write) (line j) → Kept ways s (homeOf s words′) x safe j
     relabelled j h true true t u r =
-        let n : line j .name / 256 ≡ page = eqb-true _ _ u in
+        let n : line j .name / pageLines ≡ page = eqb-true _ _ u in
         let q = mapped-frame s words page f found in
         let was = mapped-home s words (line j .name) f (rw n found) in
         let old = sim .maps j t in
-        let p : line j .physical ≡ f * 256 + line j .name % 256 = cc in
+        let p : line j .physical ≡ f * pageLines + line j .name % pageLines = cc in
         let hit = mapped-hit s words page f (frameWord page write) (q .inside) (frame-word-names page write) found in
         let new = mapped-home s words′ (line j .name) f (rw n hit) in
         record {
@@ -114,7 +116,7 @@ module _ (ways : ℕ) (s : Shape) (words : List ℕ) (x : Store) (m : List ℕ) 
           maps = rw (r, p) (rw (getD-set-same words f (frameWord page write) 0 (q .inside), frame-word-writes page write) at new);
         }
     relabelled j h true false t u r =
-        let n : line j .name / 256 ≢ page = eqb-false _ _ u in
+        let n : line j .name / pageLines ≢ page = eqb-false _ _ u in
         let q = mapped-frame s words page f found in
         record {
           was = t;
@@ -125,7 +127,7 @@ module _ (ways : ℕ) (s : Shape) (words : List ℕ) (x : Store) (m : List ℕ) 
         }
     relabelled j h false u t v r = clash _ h (held-same ways s (safe .records) j (x .records) r ∙ t)
 
-    safe-line : (j : ℕ) → j < s .lines → lineAt (safe .records) j ≡ cond (held j && eqb (line j .name / 256) page) (permittedLine (line j) write) (line j)
+    safe-line : (j : ℕ) → j < s .lines → lineAt (safe .records) j ≡ cond (held j && eqb (line j .name / pageLines) page) (permittedLine (line j) write) (line j)
     unfolding fate fateOf selects holdsAt
     safe-line j h = swept-line ways s (Protect page write) x j (sim .record-count) h
 
@@ -140,13 +142,13 @@ module _ (ways : ℕ) (s : Shape) (words : List ℕ) (x : Store) (m : List ℕ) 
     sim-protected =
         let e = swept-memory-protect ways s x page write in
         kept-sim ways s (homeOf s words) (homeOf s words′) x safe m m sim (swept-cache ways s (Protect page write) x) refl
-        (λ j h. relabelled j h (held j) (eqb (line j .name / 256) page) refl refl (safe-line j (swept-below (Protect page write) j h)))
+        (λ j h. relabelled j h (held j) (eqb (line j .name / pageLines) page) refl refl (safe-line j (swept-below (Protect page write) j h)))
         (λ j k h g. rw e) (λ j k h g. refl)
-        (λ p k free b g. rw e (sim .bare p k (λ j h. safe-held j p h (held j && eqb (line j .name / 256) page) (safe-line j (held-below sim j h)) free) b g))
+        (λ p k free b g. rw e (sim .bare p k (λ j h. safe-held j p h (held j && eqb (line j .name / pageLines) page) (safe-line j (held-below sim j h)) free) b g))
 
   -- ---- map
 
-  module _ (words-are : length words ≡ s .frames) (frames-max : s .frames ≤ 1048576) (page frame : ℕ) (write : Bool) (ordinary : ordinaryPage page ≡ true)
+  module _ (words-are : length words ≡ s .frames) (frames-max : s .frames ≤ maxFrames) (page frame : ℕ) (write : Bool) (ordinary : ordinaryPage page ≡ true)
       (inside : frame < s .frames) (free : getD words frame 0 ≡ 0) (unmapped : mappedTo s words page ≡ Nothing) where
     abbrev clear : Store
     clear = visitedAll ways s (Map page frame) x
@@ -154,29 +156,29 @@ module _ (ways : ℕ) (s : Shape) (words : List ℕ) (x : Store) (m : List ℕ) 
     abbrev given : List ℕ
     given = set words frame (frameWord page write)
 
-    clear-line : (j : ℕ) → j < s .lines → lineAt (clear .records) j ≡ cond (held j && (eqb (line j .name / 256) page || eqb (line j .name / 256) (directPage frame))) noLine (line j)
+    clear-line : (j : ℕ) → j < s .lines → lineAt (clear .records) j ≡ cond (held j && (eqb (line j .name / pageLines) page || eqb (line j .name / pageLines) (directPage frame))) noLine (line j)
     unfolding fate fateOf selects holdsAt
     clear-line j h = swept-line ways s (Map page frame) x j (sim .record-count) h
 
     -- a line outside the frame's prefix 1 range is in another frame, and one in another frame is outside the page and the range
-    out-frame : (n p : ℕ) (w : Bool) → Homed s words n p w → n / 256 ≢ directPage frame → p / 256 ≢ frame
+    out-frame : (n p : ℕ) (w : Bool) → Homed s words n p w → n / pageLines ≢ directPage frame → p / pageLines ≢ frame
     out-frame n p w (maps.direct a b c d e g) o q = o (omega arith)
     out-frame n p w (maps.mapped a b c d e g i) o q = let y = rw (q, free) at g in absurd (omega arith)
 
-    frame-out : (n p : ℕ) (w : Bool) → Homed s words n p w → p / 256 ≢ frame → (n / 256 ≢ page) × (n / 256 ≢ directPage frame)
+    frame-out : (n p : ℕ) (w : Bool) → Homed s words n p w → p / pageLines ≢ frame → (n / pageLines ≢ page) × (n / pageLines ≢ directPage frame)
     frame-out n p w (maps.direct a b c d e g) o = let l = ordinary-low page ordinary in (omega arith, omega arith)
     frame-out n p w (maps.mapped a b c d e g i) o =
-        let l = ordinary-low (n / 256) a in
-        ((λ q. clash _ (word-names (getD words (p / 256) 0) page (e ∙ q) g) (mapped-nothing s words page ordinary unmapped (p / 256) c d)), omega arith)
+        let l = ordinary-low (n / pageLines) a in
+        ((λ q. clash _ (word-names (getD words (p / pageLines) 0) page (e ∙ q) g) (mapped-nothing s words page ordinary unmapped (p / pageLines) c d)), omega arith)
 
     cleared : (j : ℕ) → holdsAt ways s (clear .records) j ≡ true → (t u : Bool) → held j ≡ t
-        → (eqb (line j .name / 256) page || eqb (line j .name / 256) (directPage frame)) ≡ u
+        → (eqb (line j .name / pageLines) page || eqb (line j .name / pageLines) (directPage frame)) ≡ u
         → lineAt (clear .records) j ≡ cond (t && u) noLine (line j)
-        → Kept ways s (homeOf s given) x (zeroedStore frame clear) j × (lineAt (clear .records) j .physical / 256 ≢ frame)
+        → Kept ways s (homeOf s given) x (zeroedStore frame clear) j × (lineAt (clear .records) j .physical / pageLines ≢ frame)
     cleared j h true true t u r = clash _ h (held-line ways s (clear .records) j noLine r ∙ holds-none ways s j)
     cleared j h false u t v r = clash _ h (held-same ways s (clear .records) j (x .records) r ∙ t)
     cleared j h true false t u r =
-        let n = or-false (eqb (line j .name / 256) page) (eqb (line j .name / 256) (directPage frame)) u in
+        let n = or-false (eqb (line j .name / pageLines) page) (eqb (line j .name / pageLines) (directPage frame)) u in
         let h₁ = sim .maps j t in
         let o = out-frame (line j .name) (line j .physical) (line j .write) (homed s words (line j .name) (line j .physical) (line j .write) h₁) (eqb-false _ _ (n .1)) in (
           record {
@@ -184,30 +186,30 @@ module _ (ways : ℕ) (s : Shape) (words : List ℕ) (x : Store) (m : List ℕ) 
             physical-is = ap (λ (l : Line). l .physical) r;
             changed-is = ap (λ (l : Line). l .changed) r;
             maps = rw r (home-set s words frame (frameWord page write) (line j .name) (line j .physical) (line j .write) (omega arith) h₁ o
-                (word-names-not (getD words frame 0) (line j .name / 256) (λ a z. let z′ = rw free at z in absurd (omega arith)))
-                (word-names-not (frameWord page write) (line j .name / 256) (λ a z. eqb-false _ _ (n .0) (sym a ∙ frame-word-page page write))));
+                (word-names-not (getD words frame 0) (line j .name / pageLines) (λ a z. let z′ = rw free at z in absurd (omega arith)))
+                (word-names-not (frameWord page write) (line j .name / pageLines) (λ a z. eqb-false _ _ (n .0) (sym a ∙ frame-word-page page write))));
           },
           rw r o,
         )
 
     cleared-at : (j : ℕ) → holdsAt ways s (clear .records) j ≡ true
-        → Kept ways s (homeOf s given) x (zeroedStore frame clear) j × (lineAt (clear .records) j .physical / 256 ≢ frame)
+        → Kept ways s (homeOf s given) x (zeroedStore frame clear) j × (lineAt (clear .records) j .physical / pageLines ≢ frame)
     cleared-at j h = cleared j h (held j) _ refl refl (clear-line j (swept-below (Map page frame) j h))
 
-    clear-bare : (p k : ℕ) → ((j : ℕ) → holdsAt ways s (clear .records) j ≡ true → lineAt (clear .records) j .physical ≡ p → ⊥) → p < 256 * s .frames → k < 16
-        → (t : Bool) → eqb (p / 256) frame ≡ t → byte (zeroedFrame m frame) p k ≡ byte (zeroedFrame (x .memory) frame) p k
+    clear-bare : (p k : ℕ) → ((j : ℕ) → holdsAt ways s (clear .records) j ≡ true → lineAt (clear .records) j .physical ≡ p → ⊥) → p < pageLines * s .frames → k < 16
+        → (t : Bool) → eqb (p / pageLines) frame ≡ t → byte (zeroedFrame m frame) p k ≡ byte (zeroedFrame (x .memory) frame) p k
     clear-bare p k none g h true t =
-        let q : p / 256 ≡ frame = eqb-true _ _ t in
+        let q : p / pageLines ≡ frame = eqb-true _ _ t in
         zeroed-line-in m frame p k q h (omega (arith, sim .flat-count)) ∙ sym (zeroed-line-in (x .memory) frame p k q h (omega (arith, sim .memory-count)))
     clear-bare p k none g h false t =
-        let q : p / 256 ≢ frame = eqb-false _ _ t in
+        let q : p / pageLines ≢ frame = eqb-false _ _ t in
         zeroed-line-out m frame p k q h ∙ (sim .bare p k not-here g h ∙ sym (zeroed-line-out (x .memory) frame p k q h))
       where
         not-here : (j : ℕ) → held j ≡ true → line j .physical ≡ p → ⊥
         not-here j o z =
             let a = frame-out (line j .name) (line j .physical) (line j .write) (homed s words (line j .name) (line j .physical) (line j .write) (sim .maps j o))
-            (rw z (eqb-false (p / 256) frame t)) in
-            let b : (eqb (line j .name / 256) page || eqb (line j .name / 256) (directPage frame)) ≡ false = rw (ne-eqb _ _ (a .0), ne-eqb _ _ (a .1)) in
+            (rw z (eqb-false (p / pageLines) frame t)) in
+            let b : (eqb (line j .name / pageLines) page || eqb (line j .name / pageLines) (directPage frame)) ≡ false = rw (ne-eqb _ _ (a .0), ne-eqb _ _ (a .1)) in
             let r : lineAt (clear .records) j ≡ line j = clear-line j (held-below sim j o) ∙ cond-and (held j) _ noLine (line j) b in
             none j (held-same ways s (clear .records) j (x .records) r ∙ o) (rw r z)
 
@@ -221,7 +223,7 @@ module _ (ways : ℕ) (s : Shape) (words : List ℕ) (x : Store) (m : List ℕ) 
         (length-zeroed m frame) (λ j h. cleared-at j h .0)
         (λ j k h g. rw e (zeroed-line-out (x .memory) frame (lineAt (clear .records) j .physical) k (cleared-at j h .1) g))
         (λ j k h g. zeroed-line-out m frame (lineAt (clear .records) j .physical) k (cleared-at j h .1) g)
-        (λ p k none g h. rw e (clear-bare p k none g h (eqb (p / 256) frame) refl))
+        (λ p k none g h. rw e (clear-bare p k none g h (eqb (p / pageLines) frame) refl))
 
   -- ---- accesses past the cache, below the frames that are mapped
 

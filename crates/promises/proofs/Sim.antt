@@ -5,6 +5,7 @@ use mathlib.Core.Path.{_≡_}
 use mathlib.Core.Bool.{Bool, true, false}
 use mathlib.Core.List.{List}
 use lib.ListN.{length, getD}
+use Rattle.address.specs.Layout.{pageLines}
 use Rattle.board.specs.declared.Shape.{Shape}
 use Rattle.board.specs.declared.Home.{Home}
 use Rattle.board.specs.declared.Home.the-variants.{Line}
@@ -18,7 +19,7 @@ byte l p k = getD l (16 * p + k) 0
 -- a map from names to homes: no two names share one, and a home is inside memory
 pub record Homes (s : Shape) (home : ℕ → Home) : Type 0 where
   pub apart : (n m p : ℕ) (w v : Bool) → home n ≡ Line p w → home m ≡ Line p v → n ≡ m
-  pub inside : (n p : ℕ) (w : Bool) → home n ≡ Line p w → p < 256 * s .frames
+  pub inside : (n p : ℕ) (w : Bool) → home n ≡ Line p w → p < pageLines * s .frames
 
 -- the store x stands for the flat memory m
 pub record Sim (ways : ℕ) (s : Shape) (home : ℕ → Home) (x : Store) (m : List ℕ) : Type 0 where
@@ -39,5 +40,5 @@ pub record Sim (ways : ℕ) (s : Shape) (home : ℕ → Home) (x : Store) (m : L
       → byte (x .cache) i k ≡ byte (x .memory) (lineAt (x .records) i .physical) k
   -- the flat memory: a held line's bytes are the cache's, the others memory's
   pub cached : (i k : ℕ) → holdsAt ways s (x .records) i ≡ true → k < 16 → byte m (lineAt (x .records) i .physical) k ≡ byte (x .cache) i k
-  pub bare : (p k : ℕ) → ((i : ℕ) → holdsAt ways s (x .records) i ≡ true → lineAt (x .records) i .physical ≡ p → ⊥) → p < 256 * s .frames → k < 16
+  pub bare : (p k : ℕ) → ((i : ℕ) → holdsAt ways s (x .records) i ≡ true → lineAt (x .records) i .physical ≡ p → ⊥) → p < pageLines * s .frames → k < 16
       → byte m p k ≡ byte (x .memory) p k

@@ -10,6 +10,7 @@ use lib.Dec.{eqb}
 use lib.ListN.{length, set}
 use lib.Seq.{set-set, set-comm}
 use borrow.Author.Tests.{eqb-true, eqb-false}
+use Rattle.address.specs.Layout.{pageLines}
 use Rattle.board.specs.Lists.{splice, part}
 use Rattle.board.specs.declared.Shape.{Shape}
 use Rattle.board.specs.declared.Found.the-variants.{Nothing}
@@ -70,7 +71,7 @@ module _ {ways : ℕ} {s : Shape} {home : ℕ → Home} {x : Store} {m : List �
       (kept : (j k : ℕ) → j ≢ i → holdsAt ways s (x .records) j ≡ true → k < 16 → KeptByte x j (lineAt (x .records) j .physical) k cache memory m m′)
       (own : holdsLine ways s i l ≡ true → Own ways s home (x .records) i l cache memory m′)
       (rest : (p k : ℕ) → ((j : ℕ) → j ≢ i → holdsAt ways s (x .records) j ≡ true → lineAt (x .records) j .physical ≢ p)
-      → (holdsLine ways s i l ≡ true → l .physical ≢ p) → p < 256 * s .frames → k < 16 → byte m′ p k ≡ byte memory p k) where
+      → (holdsLine ways s i l ≡ true → l .physical ≢ p) → p < pageLines * s .frames → k < 16 → byte m′ p k ≡ byte memory p k) where
     once′ : (j k : ℕ) → Place j → Place k → holdsAt ways s after j ≡ true → holdsAt ways s after k ≡ true
         → lineAt after j .physical ≡ lineAt after k .physical → j ≡ k
     once′ j k (here q r t) (here q′ v t′) a b p = omega arith
@@ -96,7 +97,7 @@ module _ {ways : ℕ} {s : Shape} {home : ℕ → Home} {x : Store} {m : List �
         let f = kept j k q o b in
         rw r (f .in-flat ∙ sim .cached j k o b ∙ sym (f .in-cache))
 
-    bare′ : (p k : ℕ) → ((j : ℕ) → holdsAt ways s after j ≡ true → lineAt after j .physical ≡ p → ⊥) → p < 256 * s .frames → k < 16
+    bare′ : (p k : ℕ) → ((j : ℕ) → holdsAt ways s after j ≡ true → lineAt after j .physical ≡ p → ⊥) → p < pageLines * s .frames → k < 16
         → byte m′ p k ≡ byte memory p k
     bare′ p k free b h = rest p k (λ j q o. not-other j (place j) q o) (λ o. not-own (place i) o) b h
       where
@@ -188,7 +189,7 @@ module _ {ways : ℕ} {s : Shape} {home : ℕ → Home} {x : Store} {m : List �
       (λ o. clash _ o (holds-none ways s i))
       (λ p k free _ b d. rest p k free b d (eqb p (lineAt (x .records) i .physical)) refl)
     where
-      rest : (p k : ℕ) → ((j : ℕ) → j ≢ i → holdsAt ways s (x .records) j ≡ true → lineAt (x .records) j .physical ≢ p) → p < 256 * s .frames → k < 16
+      rest : (p k : ℕ) → ((j : ℕ) → j ≢ i → holdsAt ways s (x .records) j ≡ true → lineAt (x .records) j .physical ≢ p) → p < pageLines * s .frames → k < 16
           → (t : Bool) → eqb p (lineAt (x .records) i .physical) ≡ t → byte m p k ≡ byte memory p k
       rest p k free b d true t = let q : p ≡ lineAt (x .records) i .physical = eqb-true _ _ t in rw q (sim .cached i k h d ∙ sym (at k d))
       rest p k free b d false t = sim .bare p k (none-holds i p free (λ _ z. eqb-false _ _ t (sym z))) b d ∙ sym (away p k (eqb-false _ _ t) d)

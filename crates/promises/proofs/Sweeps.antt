@@ -9,6 +9,7 @@ use native.Mathlib.Omega.{arith}
 use lib.Dec.{eqb}
 use lib.ListN.{length}
 use borrow.Author.Tests.{eqb-true, eqb-false}
+use Rattle.address.specs.Layout.{pageLines}
 use Rattle.board.specs.declared.Shape.{Shape}
 use Rattle.board.specs.declared.Home.{Home}
 use Rattle.board.specs.declared.Home.the-variants.{Line as HomeLine}
@@ -177,7 +178,7 @@ module _ (ways : ℕ) (s : Shape) (home home′ : ℕ → Home) (x y : Store) (m
     → byte (y .memory) (lineAt (y .records) j .physical) k ≡ byte (x .memory) (lineAt (y .records) j .physical) k)
     (in-flat : (j k : ℕ) → holdsAt ways s (y .records) j ≡ true → k < 16
     → byte m′ (lineAt (y .records) j .physical) k ≡ byte m (lineAt (y .records) j .physical) k)
-    (bare : (p k : ℕ) → ((j : ℕ) → holdsAt ways s (y .records) j ≡ true → lineAt (y .records) j .physical ≡ p → ⊥) → p < 256 * s .frames → k < 16
+    (bare : (p k : ℕ) → ((j : ℕ) → holdsAt ways s (y .records) j ≡ true → lineAt (y .records) j .physical ≡ p → ⊥) → p < pageLines * s .frames → k < 16
     → byte m′ p k ≡ byte (y .memory) p k) where
   clean : (j k : ℕ) → holdsAt ways s (y .records) j ≡ true → lineAt (y .records) j .changed ≡ false → k < 16
       → byte (y .cache) j k ≡ byte (y .memory) (lineAt (y .records) j .physical) k

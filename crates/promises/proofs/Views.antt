@@ -9,6 +9,7 @@ use lib.Dec.{eqb, leb, ltb}
 use lib.ListN.{length, getD, set}
 use lib.Seq.{getD-set-same, getD-set-other}
 use borrow.Author.Tests.{eqb-true, eqb-false, ltb-true, not-false}
+use Rattle.address.specs.Layout.{pageLines}
 use Rattle.address.specs.Addresses.{pageOf, regionOf, ordinaryPage}
 use Rattle.address.specs.declared.Effective.{Effective}
 use Rattle.address.specs.declared.Global.{Global}
@@ -252,7 +253,7 @@ module _ (S : ℕ → Bool) (s : Shape) (p : Plain) (n : List ℕ) (v : View S s
 
   -- ---- the bytes of a page of a segment of S
 
-  view-look : (page frame line : ℕ) → S (segmentOfPage page) ≡ true → mappedTo s (p .words) page ≡ At frame → line / 256 ≡ frame
+  view-look : (page frame line : ℕ) → S (segmentOfPage page) ≡ true → mappedTo s (p .words) page ≡ At frame → line / pageLines ≡ frame
       → plainLook s p line ≡ plainLook s q line
   unfolding plainLook
   view-look page frame line i e l =
@@ -284,7 +285,7 @@ module _ (S : ℕ → Bool) (s : Shape) (p q : Plain) (h : AlikeIn S s p q) wher
   unfolding plainStep
   alike-reply process a e k = rw (h .same-rest) (view-reply S s p (q .memory) (h .view) process a e k)
 
-  pub alike-look : (page frame line : ℕ) → S (segmentOfPage page) ≡ true → mappedTo s (p .words) page ≡ At frame → line / 256 ≡ frame
+  pub alike-look : (page frame line : ℕ) → S (segmentOfPage page) ≡ true → mappedTo s (p .words) page ≡ At frame → line / pageLines ≡ frame
       → plainLook s p line ≡ plainLook s q line
   alike-look page frame line i e l = rw (h .same-rest) (view-look S s p (q .memory) (h .view) page frame line i e l)
 

@@ -8,6 +8,7 @@ use native.Mathlib.Omega.{arith}
 use lib.Dec.{ltb}
 use lib.ListN.{length, getD, replicate, length-replicate, getD-replicate, List·getD-eq-default}
 use borrow.Author.Tests.{ltb-true, ltb-false}
+use Rattle.address.specs.Layout.{pageLines}
 use Rattle.board.proofs.Lists.{length-splice}
 use Rattle.lines.specs.Bytes.{zeros, zeroedFrame}
 use Rattle.lines.proofs.Bytes.{length-zeros}
@@ -39,8 +40,8 @@ module _ (m : List ℕ) (f : ℕ) where
   zeroed-out x h = splice-out m (4096 * f) (zeros 4096) x (λ a b. h (omega (arith, length-zeros 4096)))
 
   -- byte k of line p
-  pub zeroed-line-in : (p k : ℕ) → p / 256 ≡ f → k < 16 → 16 * p + k < length m → byte (zeroedFrame m f) p k ≡ 0
+  pub zeroed-line-in : (p k : ℕ) → p / pageLines ≡ f → k < 16 → 16 * p + k < length m → byte (zeroedFrame m f) p k ≡ 0
   zeroed-line-in p k h g b = zeroed-in (16 * p + k) (omega arith) b
 
-  pub zeroed-line-out : (p k : ℕ) → p / 256 ≢ f → k < 16 → byte (zeroedFrame m f) p k ≡ byte m p k
+  pub zeroed-line-out : (p k : ℕ) → p / pageLines ≢ f → k < 16 → byte (zeroedFrame m f) p k ≡ byte m p k
   zeroed-line-out p k h g = zeroed-out (16 * p + k) (λ e. h (omega arith))
