@@ -48,6 +48,18 @@ fn refusals_have_numbers_and_words() {
 }
 
 #[test]
+fn a_refused_call_leaves_an_equal_board() {
+    let mut board = mapped();
+    board.store(0, 4, 0, 50).unwrap();
+    assert_eq!((board.load(0, 4, 0), board.hit()), (Ok(50), true));
+    let before = board.clone();
+    assert_eq!((board.load(1, 1, 3), board.hit()), (Err(Refusal::SlotEmpty), false));
+    assert_eq!(board, before);
+    board.store(0, 1, 0, 1).unwrap();
+    assert_ne!(board, before);
+}
+
+#[test]
 fn look_gives_a_part_of_the_board_itself() {
     let mut board = mapped();
     board.store(0, 4, 16, 0x01020304).unwrap();
