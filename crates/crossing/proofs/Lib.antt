@@ -1,3 +1,4 @@
 -- The laws of this crate that proofs cite.
 pub mod Packs
 pub mod Fitting
+pub mod Returns

@@ -9,11 +9,18 @@ use Rattle.board.specs.declared.Pending.{Pending}
 use Rattle.board.specs.declared.Shape.{Shape}
 use Rattle.lines.specs.declared.Access.{Access}
 
+-- where the mark stands, and where the number
+abbrev pub markUnit : ℕ
+markUnit = 2 ^ 32
+
+abbrev pub numberUnit : ℕ
+numberUnit = 2 ^ 33
+
 unfoldable pub packed : Answer → ℕ
-packed a = a .number * 2 ^ 33 + a .mark * 2 ^ 32 + a .value
+packed a = a .number * numberUnit + a .mark * markUnit + a .value
 
 unfoldable pub unpacked : ℕ → Answer
-unpacked r = record { number = r / 2 ^ 33; value = r % 2 ^ 32; mark = r / 2 ^ 32 % 2 }
+unpacked r = record { number = r / numberUnit; value = r % markUnit; mark = r / markUnit % 2 }
 
 -- an answer that fits: the number below 16, the mark 0 or 1
 pub record Small (a : Answer) : Type 0 where
@@ -22,7 +29,7 @@ pub record Small (a : Answer) : Type 0 where
 
 -- nothing is lost: unpacking gives back what was packed, and what was unpacked packs to the same number
 pub record NothingLost : Type 0 where
-  pub answers : (a : Answer) → Small a → a .value < 2 ^ 32 → unpacked (packed a) ≡ a
+  pub answers : (a : Answer) → Small a → a .value < markUnit → unpacked (packed a) ≡ a
   pub numbers : (r : ℕ) → packed (unpacked r) ≡ r
 
 -- a flag as a number: any but 0 says yes
