@@ -3,6 +3,7 @@ ghost use mathlib.Core.Bool.{Bool, true, false};
 ghost use mathlib.Core.List.{List};
 ghost use Prim.Native.Nat.{ℕ, _+_, _*_, _%_, _≤_, _<_, _^_};
 ghost use lib.ListN.{length};
+ghost use Rattle.address.specs.Layout.{lineBytes, processSlots};
 ghost use Rattle.board.specs.Shapes.{maxProcesses};
 ghost use Rattle.lines.specs.Premises.{Width, Sized};
 ghost use Rattle.lines.specs.Stores.{store as storeOf};
@@ -76,7 +77,7 @@ fn user_check(
     a: Access,
     e: Effective,
 ) -> Check
-    requires { ⌜ (length (now slots) ≡ s .processes * 512) × (s .processes ≤ maxProcesses) ⌝ }
+    requires { ⌜ (length (now slots) ≡ s .processes * processSlots) × (s .processes ≤ maxProcesses) ⌝ }
     ensures { λ r. ⌜ r ≡ userCheck s (now (slots .entry)) tag process a e ⌝ }
 {
     if process >= s.processes {
@@ -126,7 +127,7 @@ fn line_access(
     user: bool,
     a: Access,
 ) -> Answer
-    requires { ⌜ Sized s (now records) (now cache) (now memory) × (length (now words) ≡ s .frames) × Width (a .width) × (g .0 % 16 + a .width ≤ 16) ⌝ }
+    requires { ⌜ Sized s (now records) (now cache) (now memory) × (length (now words) ≡ s .frames) × Width (a .width) × (g .0 % lineBytes + a .width ≤ lineBytes) ⌝ }
     ensures { λ r. ⌜ reached r (now (records .exit)) (now (cache .exit)) (now (memory .exit)) ≡ lineAccess s (now (words .entry)) g user a (storeOf (now (records .entry)) (now (cache .entry)) (now (memory .entry))) ⌝ }
 {
     let name = g.name();

@@ -5,6 +5,7 @@ use address::PAGE_NAMES;
 use address::PREFIX_NAMES;
 use address::ordinary_page;
 ghost use lib.ListN.{length, set, getD};
+ghost use Rattle.address.specs.Layout.{processSlots};
 ghost use Rattle.board.specs.Answers.{answer};
 ghost use Rattle.board.specs.Lists.{part, splice, bit};
 ghost use Rattle.board.specs.Shapes.{limitsHold, lengthsAgree, fitsShape, maxFrames, maxProcesses, maxLines};
@@ -146,7 +147,7 @@ pub struct Slots {
 impl Slots {
     // Attaches a segment to a slot, in place of what was there.
     pub fn attach(mut self, slot: usize, segment: u64, write: bool) -> Slots
-        requires { ⌜ (slot < 512) × (segment < 2 ^ 22) ⌝ }
+        requires { ⌜ (slot < processSlots) × (segment < 2 ^ 22) ⌝ }
         ensures { λ r. ⌜ r .words ≡ set (self .words) slot (slotWord segment write) ⌝ }
     {
         let w = bit_of(write);
@@ -156,7 +157,7 @@ impl Slots {
 
     // Empties a slot.
     pub fn detach(mut self, slot: usize) -> Slots
-        requires { ⌜ slot < 512 ⌝ }
+        requires { ⌜ slot < processSlots ⌝ }
         ensures { λ r. ⌜ r .words ≡ set (self .words) slot 0 ⌝ }
     {
         self.words[slot] = 0;
@@ -166,8 +167,8 @@ impl Slots {
 
 // One process's slots, copied out of the caller's buffer.
 fn slots_of(slots: &[u32], process: usize) -> Slots
-    requires { ⌜ slotIndex process 512 ≤ length (now slots) ⌝ }
-    ensures { λ r. ⌜ r .words ≡ part (now (slots .entry)) (slotIndex process 0) 512 ⌝ }
+    requires { ⌜ slotIndex process processSlots ≤ length (now slots) ⌝ }
+    ensures { λ r. ⌜ r .words ≡ part (now (slots .entry)) (slotIndex process 0) processSlots ⌝ }
 {
     let a = process * PROCESS_SLOTS;
     let mut words: [u32; 512] = [0; 512];
@@ -177,7 +178,7 @@ fn slots_of(slots: &[u32], process: usize) -> Slots
 
 // One process's slots, copied back.
 fn put_slots(slots: &mut [u32], process: usize, one: Slots)
-    requires { ⌜ slotIndex process 512 ≤ length (now slots) ⌝ }
+    requires { ⌜ slotIndex process processSlots ≤ length (now slots) ⌝ }
     ensures { λ _. ⌜ now (slots .exit) ≡ splice (now (slots .entry)) (slotIndex process 0) (one .words) ⌝ }
 {
     let a = process * PROCESS_SLOTS;
@@ -187,7 +188,7 @@ fn put_slots(slots: &mut [u32], process: usize, one: Slots)
 
 // Attaches a segment to a slot of a process.
 pub fn attach_slot(slots: &mut [u32], process: usize, slot: usize, segment: u64, write: bool)
-    requires { ⌜ (slotIndex process 512 ≤ length (now slots)) × (slot < 512) × (segment < 2 ^ 22) ⌝ }
+    requires { ⌜ (slotIndex process processSlots ≤ length (now slots)) × (slot < processSlots) × (segment < 2 ^ 22) ⌝ }
     ensures { λ _. ⌜ now (slots .exit) ≡ set (now (slots .entry)) (slotIndex process slot) (slotWord segment write) ⌝ }
 {
     let one = slots_of(slots, process);
@@ -196,7 +197,7 @@ pub fn attach_slot(slots: &mut [u32], process: usize, slot: usize, segment: u64,
 
 // Empties a slot of a process.
 pub fn detach_slot(slots: &mut [u32], process: usize, slot: usize)
-    requires { ⌜ (slotIndex process 512 ≤ length (now slots)) × (slot < 512) ⌝ }
+    requires { ⌜ (slotIndex process processSlots ≤ length (now slots)) × (slot < processSlots) ⌝ }
     ensures { λ _. ⌜ now (slots .exit) ≡ set (now (slots .entry)) (slotIndex process slot) 0 ⌝ }
 {
     let one = slots_of(slots, process);

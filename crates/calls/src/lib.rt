@@ -3,6 +3,7 @@ ghost use mathlib.Core.Bool.{Bool, true, false, _&&_};
 ghost use mathlib.Core.List.{List};
 ghost use Prim.Native.Nat.{ℕ, _+_, _*_, _≤_, _<_, _^_};
 ghost use lib.ListN.{length};
+ghost use Rattle.address.specs.Layout.{pageLines};
 ghost use Rattle.address.specs.Addresses.{attachable};
 ghost use Rattle.board.specs.Answers.{answer};
 ghost use Rattle.board.specs.declared.Pending.{Pending};
@@ -10,7 +11,7 @@ ghost use Rattle.board.specs.Shapes.{maxFrames};
 ghost use Rattle.lines.specs.Stores.{store as storeOf};
 ghost use Rattle.lines.specs.Premises.{Sized};
 ghost use Rattle.lines.specs.Reach.{current};
-ghost use Rattle.machine.specs.Boards.{board as boardOf, outcome, pages, noTag};
+ghost use Rattle.machine.specs.Boards.{ways, board as boardOf, outcome, pages, noTag};
 ghost use Rattle.machine.specs.Refusals.{isProcess, isSlot, isFrame};
 ghost use Rattle.machine.specs.Calls.{mapped, unmapped, protected, loaded, attach as attachCall, detach as detachCall, mapPage as mapCall, unmap as unmapCall, protect as protectCall, flushAll as flushCall, tag as tagCall, loadAndMap as loadAndMapCall, dropTag as dropTagCall};
 ghost use Rattle.machine.specs.Looks.{lookNumber as lookNumberOf, look as lookOf};
@@ -471,7 +472,7 @@ fn load_line(
     line: usize,
     write: bool,
 )
-    requires { ⌜ Sized s (now records) (now cache) (now memory) × (line < 256 * s .frames) ⌝ }
+    requires { ⌜ Sized s (now records) (now cache) (now memory) × (line < pageLines * s .frames) ⌝ }
     ensures { λ _. ⌜ storeOf (now (records .exit)) (now (cache .exit)) (now (memory .exit)) ≡ loaded s name line write (storeOf (now (records .entry)) (now (cache .entry)) (now (memory .entry))) ⌝ }
 {
     match lines::holder_of(s, records, name) {
@@ -554,8 +555,8 @@ fn current_part<'a>(
     memory: &'a [u8],
     line: usize,
 ) -> &'a [u8]
-    requires { ⌜ Sized s (now records) (now cache) (now memory) × (line < 256 * s .frames) ⌝ }
-    ensures { λ r. ⌜ now r ≡ current 1 s (storeOf (now (records .entry)) (now (cache .entry)) (now (memory .entry))) line ⌝ }
+    requires { ⌜ Sized s (now records) (now cache) (now memory) × (line < pageLines * s .frames) ⌝ }
+    ensures { λ r. ⌜ now r ≡ current ways s (storeOf (now (records .entry)) (now (cache .entry)) (now (memory .entry))) line ⌝ }
 {
     match lines::keeper_of(s, records, line) {
         Found::At(i) => {

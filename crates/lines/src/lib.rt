@@ -4,6 +4,7 @@ ghost use Prim.Native.Nat.{_+_, _*_, _%_, _≤_, _<_, _^_};
 ghost use lib.Count.{ones};
 ghost use lib.Dec.{eqb};
 ghost use lib.ListN.{length};
+ghost use Rattle.address.specs.Layout.{pageBytes, lineBytes, pageLines};
 ghost use Rattle.board.specs.Pages.{directPage};
 ghost use Rattle.board.specs.Shapes.{maxFrames};
 ghost use Rattle.lines.specs.Bytes.{number, stored, lineOf, withLine, zeros, zeroedFrame};
@@ -106,7 +107,7 @@ pub fn store_bytes(bytes: &mut [u8], at: usize, width: u32, value: u32)
 
 // Copies one line's sixteen bytes.
 fn copy_sixteen(dst: &mut [u8], src: &[u8])
-    requires { ⌜ (length (now dst) ≡ 16) × (length (now src) ≡ 16) ⌝ }
+    requires { ⌜ (length (now dst) ≡ lineBytes) × (length (now src) ≡ lineBytes) ⌝ }
     ensures { λ _. ⌜ now (dst .exit) ≡ now (src .entry) ⌝ }
 {
     let mut i: usize = 0;
@@ -118,7 +119,7 @@ fn copy_sixteen(dst: &mut [u8], src: &[u8])
 
 // Copies line `j` of `src` over line `i` of `dst`, by a local so that it is one move of sixteen bytes.
 pub fn copy_line(dst: &mut [u8], i: usize, src: &[u8], j: usize)
-    requires { ⌜ (16 * i + 16 ≤ length (now dst)) × (16 * j + 16 ≤ length (now src)) ⌝ }
+    requires { ⌜ (lineBytes * i + lineBytes ≤ length (now dst)) × (lineBytes * j + lineBytes ≤ length (now src)) ⌝ }
     ensures { λ _. ⌜ now (dst .exit) ≡ withLine (now (dst .entry)) i (lineOf (now (src .entry)) j) ⌝ }
 {
     let a = LINE_BYTES * i;
@@ -218,7 +219,7 @@ pub fn insert(
     line: usize,
     write: bool,
 )
-    requires { ⌜ Sized s (now records) (now cache) (now memory) × (i < s .lines) × (line < 256 * s .frames) ⌝ }
+    requires { ⌜ Sized s (now records) (now cache) (now memory) × (i < s .lines) × (line < pageLines * s .frames) ⌝ }
     ensures { λ _. ⌜ storeOf (now (records .exit)) (now (cache .exit)) (now (memory .exit)) ≡ inserted 1 s i name line write (storeOf (now (records .entry)) (now (cache .entry)) (now (memory .entry))) ⌝ }
 {
     write_back(s, records, cache, memory, i);
@@ -248,7 +249,7 @@ fn mark_changed(records: &mut [u64], i: usize)
 
 // A load or a store at an offset of the line of record `i`.
 pub fn perform(records: &mut [u64], cache: &mut [u8], i: usize, offset: usize, a: Access) -> u32
-    requires { ⌜ (2 * i + 2 ≤ length (now records)) × (16 * i + offset + a .width ≤ length (now cache)) × Width (a .width) ⌝ }
+    requires { ⌜ (2 * i + 2 ≤ length (now records)) × (lineBytes * i + offset + a .width ≤ length (now cache)) × Width (a .width) ⌝ }
     ensures { λ r. ⌜ performed r (now (records .exit)) (now (cache .exit)) ≡ performedAt i offset a (now (records .entry)) (now (cache .entry)) ⌝ }
 {
     let at = LINE_BYTES * i + offset;
@@ -416,7 +417,7 @@ fn zero(bytes: &mut [u8])
 
 // Fills a frame with zeros.
 pub fn zero_frame(memory: &mut [u8], frame: usize)
-    requires { ⌜ 4096 * frame + 4096 ≤ length (now memory) ⌝ }
+    requires { ⌜ pageBytes * frame + pageBytes ≤ length (now memory) ⌝ }
     ensures { λ _. ⌜ now (memory .exit) ≡ zeroedFrame (now (memory .entry)) frame ⌝ }
 {
     let a = PAGE_BYTES * frame;

@@ -24,7 +24,7 @@ use Rattle.machine.specs.Looks.{lookNumber, look}
 use Rattle.machine.proofs.Tables.{table-passed}
 use Rattle.calls.proofs.Fits.{fit-sized}
 use Rattle.calls.proofs.Looks.{keeper-inside, look-inside}
-use Rattle.oaledva.specs.Lends.{placeBy, lookPlace, bytesAt, PlaceIsLook}
+use Rattle.oaledva.specs.Lends.{inMemory, nowhere, placeBy, lookPlace, bytesAt, PlaceIsLook}
 
 -- the return of place_of_line
 module _ (s : Shape) (r c m : List ℕ) (line : ℕ) (found : Found) (e : found ≡ keeperOf 1 s r line) where
@@ -35,7 +35,7 @@ module _ (s : Shape) (r c m : List ℕ) (line : ℕ) (found : Found) (e : found 
   unfolding placeBy
   place-kept i k = ap (placeBy line) (sym k ∙ e)
 
-  pub place-memory : found ≡ Nothing → 9223372036854775808 + 16 * line ≡ placeBy line (keeperOf 1 s r line)
+  pub place-memory : found ≡ Nothing → inMemory + 16 * line ≡ placeBy line (keeperOf 1 s r line)
   unfolding placeBy
   place-memory k = ap (placeBy line) (sym k ∙ e)
 
@@ -84,19 +84,19 @@ module _ (s : Shape) (slots w r c m : List ℕ) (tag : Pending) (line : ℕ) whe
     unfolding bytesAt placeBy currentBy lineOf
     place-bytes (At i) e =
         let y = kept-below s r c m line (At i) e i refl look-sized in
-        let z : 16 * i < 9223372036854775808 = omega arith in
+        let z : 16 * i < inMemory = omega arith in
         rw (lt-ltb _ _ z)
     place-bytes Nothing e =
-        let z : 9223372036854775808 ≤ 9223372036854775808 + 16 * line = omega arith in
+        let z : inMemory ≤ inMemory + 16 * line = omega arith in
         rw (le-ltb _ _ z, add-sub-cancel-left)
 
   module _ (n : ℕ) (f : n ≡ lookNumber s (board slots w r c m tag) line) (h : n ≡ 0 → ⊥) where
-    refused-by : (t u : Bool) (place : ℕ) → n ≡ cond (not t) 1 (cond (not u) 2 0) → 18446744073709551615 ≡ cond (not t) 18446744073709551615 (cond (not u) 18446744073709551615 place)
+    refused-by : (t u : Bool) (place : ℕ) → n ≡ cond (not t) 1 (cond (not u) 2 0) → nowhere ≡ cond (not t) nowhere (cond (not u) nowhere place)
     refused-by true true place e = absurd (h e)
     refused-by true false place e = refl
     refused-by false u place e = refl
 
-    pub look-at-refused : 18446744073709551615 ≡ lookPlace s (board slots w r c m tag) line
+    pub look-at-refused : nowhere ≡ lookPlace s (board slots w r c m tag) line
     unfolding lookNumber lookPlace byTable
     look-at-refused = refused-by (fitsBoard s (board slots w r c m tag)) (ltb line (256 * s .frames)) _ f
 

@@ -15,18 +15,24 @@ use Rattle.machine.specs.Boards.{ways, Board}
 use Rattle.machine.specs.Refusals.{byTable}
 use Rattle.machine.specs.Looks.{lookTable, lookNumber, look}
 
+-- what is added to an offset in memory, and what a refused look gives
+abbrev pub inMemory : ℕ
+inMemory = 2 ^ 63
+
+abbrev pub nowhere : ℕ
+nowhere = 2 ^ 64 - 1
+
 -- where a line's current bytes stand: 16 × record in the cache bytes, or 2^63 + 16 × line in memory
 unfoldable pub placeBy : ℕ → Found → ℕ
 placeBy line (At i) = lineBytes * i
-placeBy line Nothing = 2 ^ 63 + lineBytes * line
+placeBy line Nothing = inMemory + lineBytes * line
 
--- refused, 2^64 - 1
 unfoldable pub lookPlace : Shape → Board → ℕ → ℕ
-lookPlace s b line = byTable (λ n. 2 ^ 64 - 1) (lookTable s b line) (placeBy line (keeperOf ways s (b .store .records) line))
+lookPlace s b line = byTable (λ n. nowhere) (lookTable s b line) (placeBy line (keeperOf ways s (b .store .records) line))
 
 -- the sixteen bytes at such a place
 unfoldable pub bytesAt : Board → ℕ → List ℕ
-bytesAt b place = cond (ltb place (2 ^ 63)) (part (b .store .cache) place lineBytes) (part (b .store .memory) (place - 2 ^ 63) lineBytes)
+bytesAt b place = cond (ltb place inMemory) (part (b .store .cache) place lineBytes) (part (b .store .memory) (place - inMemory) lineBytes)
 
 -- where look is not refused, the bytes at the place are those that look gives, and all sixteen stand in the buffer
 pub record PlaceIsLook : Type 0 where

@@ -2,11 +2,12 @@
 // a number, and any but 0 says yes. No call asks anything of the numbers or of the buffers' lengths.
 ghost use mathlib.Core.Path.{_≡_};
 ghost use Prim.Native.Nat.{_*_, _<_};
+ghost use Rattle.address.specs.Layout.{pageLines};
 ghost use Rattle.address.specs.Addresses.{global};
 ghost use Rattle.board.specs.declared.Pending.{Pending};
 ghost use Rattle.lines.specs.Premises.{Sized};
 ghost use Rattle.lines.specs.Reach.{keeperOf};
-ghost use Rattle.machine.specs.Boards.{board as boardOf, outcome};
+ghost use Rattle.machine.specs.Boards.{ways, board as boardOf, outcome};
 ghost use Rattle.machine.specs.Accesses.{supervisorAccess};
 ghost use Rattle.machine.specs.Calls.{attach as attachCall, detach as detachCall, mapPage as mapCall, unmap as unmapCall, protect as protectCall, flushAll as flushCall, tag as tagCall, loadAndMap as loadAndMapCall, dropTag as dropTagCall};
 ghost use Rattle.machine.specs.Looks.{lookNumber as lookNumberOf};
@@ -26,8 +27,8 @@ const NOWHERE: u64 = 18446744073709551615;
 
 // Where a line's current bytes stand: in the cache bytes, or in memory.
 fn place_of_line(s: Shape, records: &[u64], cache: &[u8], memory: &[u8], line: usize) -> u64
-    requires { ⌜ Sized s (now records) (now cache) (now memory) × (line < 256 * s .frames) ⌝ }
-    ensures { λ r. ⌜ r ≡ placeBy line (keeperOf 1 s (now (records .entry)) line) ⌝ }
+    requires { ⌜ Sized s (now records) (now cache) (now memory) × (line < pageLines * s .frames) ⌝ }
+    ensures { λ r. ⌜ r ≡ placeBy line (keeperOf ways s (now (records .entry)) line) ⌝ }
 {
     match lines::keeper_of(s, records, line) {
         Found::At(i) => (LINE_BYTES * i) as u64,
