@@ -1,8 +1,7 @@
 //! An executable model of 01 (the scope document) and of the readings of it in docs/DECISIONS.md, written from those two
 //! alone. A test oracle: clear and exact, not fast. Quotations are 01's; "decided" marks a reading.
 //!
-//! * [`Board`]  the machine with its cache. One method for each call; each is a thin
-//!   wrapper of [`Board::step`], which also gives the [`Event`] for coverage.
+//! * [`Board`]  the machine with its cache. [`Board::step`] also gives the [`Event`] for coverage.
 //! * [`Plain`]  the machine without a cache.
 //!
 //! Form of each call: first the questions, by rising number (`ask(n, refused_if)?`), none of
@@ -354,6 +353,63 @@ pub enum Event {
     Done,
 }
 
+/// Each call by its name, on the board and on the plain machine.
+pub trait Machine {
+    type Answer;
+
+    fn make(&mut self, call: Call) -> Self::Answer;
+
+    fn user_access(&mut self, process: u64, store: bool, width: u32, address: u32, value: u32) -> Self::Answer {
+        self.make(Call::UserAccess { process, store, width, address, value })
+    }
+    fn supervisor_access(&mut self, store: bool, width: u32, global: u64, value: u32) -> Self::Answer {
+        self.make(Call::SupervisorAccess { store, width, global, value })
+    }
+    fn attach(&mut self, process: u64, slot: u64, segment: u64, write: bool) -> Self::Answer {
+        self.make(Call::Attach { process, slot, segment, write })
+    }
+    fn detach(&mut self, process: u64, slot: u64) -> Self::Answer {
+        self.make(Call::Detach { process, slot })
+    }
+    fn map(&mut self, page: u64, frame: u64, write: bool) -> Self::Answer {
+        self.make(Call::Map { page, frame, write })
+    }
+    fn unmap(&mut self, page: u64) -> Self::Answer {
+        self.make(Call::Unmap { page })
+    }
+    fn protect(&mut self, page: u64, write: bool) -> Self::Answer {
+        self.make(Call::Protect { page, write })
+    }
+    fn flush_all(&mut self) -> Self::Answer {
+        self.make(Call::FlushAll)
+    }
+    fn tag(&mut self, name: u64) -> Self::Answer {
+        self.make(Call::Tag { name })
+    }
+    fn load_and_map(&mut self, line: u64) -> Self::Answer {
+        self.make(Call::LoadAndMap { line })
+    }
+    fn drop_tag(&mut self) -> Self::Answer {
+        self.make(Call::DropTag)
+    }
+}
+
+impl Machine for Board {
+    type Answer = Answer;
+
+    fn make(&mut self, call: Call) -> Answer {
+        self.step(&call).0
+    }
+}
+
+impl Machine for Plain {
+    type Answer = PlainAnswer;
+
+    fn make(&mut self, call: Call) -> PlainAnswer {
+        self.step(&call)
+    }
+}
+
 /// A question of the refusal table: number `number` if `refused`.
 fn ask(number: u32, refused: bool) -> Result<(), u32> {
     if refused {
@@ -403,40 +459,6 @@ impl Board {
     }
 
     // ----- the calls -----
-
-    pub fn user_access(&mut self, process: u64, store: bool, width: u32, address: u32, value: u32) -> Answer {
-        self.step(&Call::UserAccess { process, store, width, address, value }).0
-    }
-    pub fn supervisor_access(&mut self, store: bool, width: u32, global: u64, value: u32) -> Answer {
-        self.step(&Call::SupervisorAccess { store, width, global, value }).0
-    }
-    pub fn attach(&mut self, process: u64, slot: u64, segment: u64, write: bool) -> Answer {
-        self.step(&Call::Attach { process, slot, segment, write }).0
-    }
-    pub fn detach(&mut self, process: u64, slot: u64) -> Answer {
-        self.step(&Call::Detach { process, slot }).0
-    }
-    pub fn map(&mut self, page: u64, frame: u64, write: bool) -> Answer {
-        self.step(&Call::Map { page, frame, write }).0
-    }
-    pub fn unmap(&mut self, page: u64) -> Answer {
-        self.step(&Call::Unmap { page }).0
-    }
-    pub fn protect(&mut self, page: u64, write: bool) -> Answer {
-        self.step(&Call::Protect { page, write }).0
-    }
-    pub fn flush_all(&mut self) -> Answer {
-        self.step(&Call::FlushAll).0
-    }
-    pub fn tag(&mut self, name: u64) -> Answer {
-        self.step(&Call::Tag { name }).0
-    }
-    pub fn load_and_map(&mut self, line: u64) -> Answer {
-        self.step(&Call::LoadAndMap { line }).0
-    }
-    pub fn drop_tag(&mut self) -> Answer {
-        self.step(&Call::DropTag).0
-    }
 
     /// Any call, with what happened.
     pub fn step(&mut self, call: &Call) -> (Answer, Event) {
@@ -832,40 +854,6 @@ impl Plain {
             records_len: board.records.len(),
             cache_len: board.cache.len(),
         }
-    }
-
-    pub fn user_access(&mut self, process: u64, store: bool, width: u32, address: u32, value: u32) -> PlainAnswer {
-        self.step(&Call::UserAccess { process, store, width, address, value })
-    }
-    pub fn supervisor_access(&mut self, store: bool, width: u32, global: u64, value: u32) -> PlainAnswer {
-        self.step(&Call::SupervisorAccess { store, width, global, value })
-    }
-    pub fn attach(&mut self, process: u64, slot: u64, segment: u64, write: bool) -> PlainAnswer {
-        self.step(&Call::Attach { process, slot, segment, write })
-    }
-    pub fn detach(&mut self, process: u64, slot: u64) -> PlainAnswer {
-        self.step(&Call::Detach { process, slot })
-    }
-    pub fn map(&mut self, page: u64, frame: u64, write: bool) -> PlainAnswer {
-        self.step(&Call::Map { page, frame, write })
-    }
-    pub fn unmap(&mut self, page: u64) -> PlainAnswer {
-        self.step(&Call::Unmap { page })
-    }
-    pub fn protect(&mut self, page: u64, write: bool) -> PlainAnswer {
-        self.step(&Call::Protect { page, write })
-    }
-    pub fn flush_all(&mut self) -> PlainAnswer {
-        self.step(&Call::FlushAll)
-    }
-    pub fn tag(&mut self, name: u64) -> PlainAnswer {
-        self.step(&Call::Tag { name })
-    }
-    pub fn load_and_map(&mut self, line: u64) -> PlainAnswer {
-        self.step(&Call::LoadAndMap { line })
-    }
-    pub fn drop_tag(&mut self) -> PlainAnswer {
-        self.step(&Call::DropTag)
     }
 
     pub fn step(&mut self, call: &Call) -> PlainAnswer {

@@ -37,11 +37,11 @@ fn check(start: &Board, call: Call, rows: &[Row]) {
     }
 }
 
-/// Gives a field of the call this value.
+/// Gives a field of the call, of one of these kinds, a value.
 macro_rules! with {
-    ($call:ident, $field:ident = $value:expr) => {
+    ($($call:ident)|+, $field:ident = $value:expr) => {
         |_, call| match call {
-            Call::$call { $field, .. } => *$field = $value,
+            $(Call::$call { $field, .. })|+ => *$field = $value,
             _ => unreachable!(),
         }
     };
@@ -52,12 +52,6 @@ const PENDING: Row = (3, |b, _| b.tag = (true, 0x2000_0000));
 const NOT_PENDING: Row = (3, |b, _| b.tag.0 = false);
 const UNMAPPED: Row = (8, |b, _| b.words[1] = 0);
 
-fn width(_: &mut Board, c: &mut Call) {
-    match c {
-        Call::UserAccess { width, .. } | Call::SupervisorAccess { width, .. } => *width = 3,
-        _ => unreachable!(),
-    }
-}
 fn crooked(_: &mut Board, c: &mut Call) {
     match c {
         Call::UserAccess { address, .. } => *address |= 2,
@@ -65,55 +59,21 @@ fn crooked(_: &mut Board, c: &mut Call) {
         _ => unreachable!(),
     }
 }
-fn process(_: &mut Board, c: &mut Call) {
-    match c {
-        Call::UserAccess { process, .. } | Call::Attach { process, .. } | Call::Detach { process, .. } => *process = 2,
-        _ => unreachable!(),
-    }
-}
-fn process_huge(_: &mut Board, c: &mut Call) {
-    match c {
-        Call::UserAccess { process, .. } | Call::Attach { process, .. } | Call::Detach { process, .. } => {
-            *process = u64::MAX
-        }
-        _ => unreachable!(),
-    }
-}
-fn slot(_: &mut Board, c: &mut Call) {
-    match c {
-        Call::Attach { slot, .. } | Call::Detach { slot, .. } => *slot = 512,
-        _ => unreachable!(),
-    }
-}
-fn slot_huge(_: &mut Board, c: &mut Call) {
-    match c {
-        Call::Attach { slot, .. } | Call::Detach { slot, .. } => *slot = u64::MAX,
-        _ => unreachable!(),
-    }
-}
-fn global_high(_: &mut Board, c: &mut Call) {
-    match c {
-        Call::SupervisorAccess { global, .. } => *global |= 1 << 44,
-        _ => unreachable!(),
-    }
-}
-fn global_huge(_: &mut Board, c: &mut Call) {
-    match c {
-        Call::SupervisorAccess { global, .. } => *global = u64::MAX,
-        _ => unreachable!(),
-    }
-}
-fn set_page(c: &mut Call, to: u64) {
-    match c {
-        Call::Map { page, .. } | Call::Unmap { page } | Call::Protect { page, .. } => *page = to,
-        _ => unreachable!(),
-    }
-}
+const WIDTH: Row = (4, with!(UserAccess | SupervisorAccess, width = 3));
+const PROCESS: Row = (2, with!(UserAccess | Attach | Detach, process = 2));
+const PROCESS_HUGE: Row = (2, with!(UserAccess | Attach | Detach, process = u64::MAX));
+const SLOT: Row = (2, with!(Attach | Detach, slot = 512));
+const SLOT_HUGE: Row = (2, with!(Attach | Detach, slot = u64::MAX));
+const GLOBAL_HIGH: Row = (2, |_, call| match call {
+    Call::SupervisorAccess { global, .. } => *global |= 1 << 44,
+    _ => unreachable!(),
+});
+const GLOBAL_HUGE: Row = (2, with!(SupervisorAccess, global = u64::MAX));
 const PAGES: [Row; 4] = [
-    (2, |_, c| set_page(c, 0x1F_FFFF)),
-    (2, |_, c| set_page(c, 0xFFC0_0000)),
-    (2, |_, c| set_page(c, 0x1_0020_0000)),
-    (2, |_, c| set_page(c, u64::MAX)),
+    (2, with!(Map | Unmap | Protect, page = 0x1F_FFFF)),
+    (2, with!(Map | Unmap | Protect, page = 0xFFC0_0000)),
+    (2, with!(Map | Unmap | Protect, page = 0x1_0020_0000)),
+    (2, with!(Map | Unmap | Protect, page = u64::MAX)),
 ];
 
 #[test]
@@ -122,10 +82,10 @@ fn user_access() {
         let call = Call::UserAccess { process: 0, store, width: 4, address: 0, value: 3 };
         let mut rows: Vec<Row> = vec![
             ONE,
-            (2, process),
-            (2, process_huge),
+            PROCESS,
+            PROCESS_HUGE,
             PENDING,
-            (4, width),
+            WIDTH,
             (4, crooked),
             (5, |_, c| {
                 if let Call::UserAccess { address, .. } = c {
@@ -156,7 +116,7 @@ fn user_access() {
 fn supervisor_ordinary() {
     for store in [false, true] {
         let call = Call::SupervisorAccess { store, width: 4, global: 0x2_0000_0000, value: 3 };
-        check(&ready(), call, &[ONE, (2, global_high), (2, global_huge), PENDING, (4, width), (4, crooked), UNMAPPED]);
+        check(&ready(), call, &[ONE, GLOBAL_HIGH, GLOBAL_HUGE, PENDING, WIDTH, (4, crooked), UNMAPPED]);
         // The write bit is not asked.
         let mut b = ready();
         b.words[1] = 0x20_0000 * 4 + 1;
@@ -177,8 +137,8 @@ fn supervisor_prefix_1() {
                 call,
                 &[
                     ONE,
-                    (2, global_high),
-                    (4, width),
+                    GLOBAL_HIGH,
+                    WIDTH,
                     (4, crooked),
                     // Whatever frame below F the address has, its word is not 0.
                     (10, |b, c| {
@@ -225,8 +185,8 @@ fn supervisor_prefix_0() {
                 call,
                 &[
                     ONE,
-                    (2, global_high),
-                    (4, width),
+                    GLOBAL_HIGH,
+                    WIDTH,
                     (4, crooked),
                     (12, with!(SupervisorAccess, global = 0x1000)),
                     (12, with!(SupervisorAccess, global = 0x4000)),
@@ -258,10 +218,10 @@ fn supervisor_page_table() {
 fn attach() {
     let rows: [Row; 8] = [
         ONE,
-        (2, process),
-        (2, process_huge),
-        (2, slot),
-        (2, slot_huge),
+        PROCESS,
+        PROCESS_HUGE,
+        SLOT,
+        SLOT_HUGE,
         (2, with!(Attach, segment = 2047)),
         (2, with!(Attach, segment = 4_190_208)),
         (2, with!(Attach, segment = u64::MAX)),
@@ -277,7 +237,7 @@ fn attach() {
 
 #[test]
 fn detach() {
-    let rows: [Row; 5] = [ONE, (2, process), (2, process_huge), (2, slot), (2, slot_huge)];
+    let rows: [Row; 5] = [ONE, PROCESS, PROCESS_HUGE, SLOT, SLOT_HUGE];
     for (process, slot) in [(0, 0), (1, 511)] {
         check(&ready(), Call::Detach { process, slot }, &rows);
     }
