@@ -15,10 +15,10 @@ use Rattle.address.specs.declared.Region.the-variants.{Uncached, Cached, PageTa
 use Rattle.board.specs.declared.Answer.{Answer}
 use Rattle.board.specs.declared.Shape.{Shape}
 use Rattle.board.proofs.Bools.{and-left, and-right}
-use Rattle.lines.specs.Stores.{Store}
-use Rattle.lines.specs.declared.Access.{Access}
-use Rattle.lines.specs.declared.Way.{Way}
-use Rattle.lines.specs.declared.Way.the-variants.{Held, InMemory, Missing}
+use Rattle.stores.specs.Stores.{Store}
+use Rattle.stores.specs.declared.Access.{Access}
+use Rattle.reach.specs.declared.Way.{Way}
+use Rattle.reach.specs.declared.Way.the-variants.{Held, InMemory, Missing}
 use Rattle.machine.specs.Boards.{Board, Outcome, outcome, refused}
 use Rattle.machine.specs.Refusals.{Row, byTable}
 use Rattle.machine.specs.Accesses.{performedOn, accessedBy, accessed, memoryAccess, supervisorDone, userTable, supervisorTable, userAccess, supervisorAccess}

@@ -4,7 +4,7 @@ use mathlib.Core.Bool.{Bool}
 use Rattle.address.specs.declared.Effective.{Effective}
 use Rattle.address.specs.declared.Global.{Global}
 use Rattle.board.specs.declared.Shape.{Shape}
-use Rattle.lines.specs.declared.Access.{Access}
+use Rattle.stores.specs.declared.Access.{Access}
 use Rattle.machine.specs.Boards.{Board}
 use Rattle.machine.specs.Accesses.{userAccess, supervisorAccess}
 use Rattle.machine.specs.Calls.{attach, detach, mapPage, unmap, protect, flushAll, tag, loadAndMap, dropTag}

@@ -7,7 +7,7 @@ use lib.Dec.{eqb}
 use Rattle.board.specs.declared.Answer.{Answer}
 use Rattle.board.specs.declared.Pending.{Pending}
 use Rattle.board.specs.declared.Shape.{Shape}
-use Rattle.lines.specs.declared.Access.{Access}
+use Rattle.stores.specs.declared.Access.{Access}
 
 -- where the mark stands, and where the number
 abbrev pub markUnit : ℕ

@@ -1,6 +1,2 @@
-pub mod Bytes
 pub mod Records
-pub mod Stores
-pub mod Reach
-pub mod Visits
-pub mod Premises
+pub mod Holds

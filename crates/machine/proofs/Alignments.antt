@@ -6,7 +6,7 @@ use native.Mathlib.Omega.{arith}
 use lib.Dec.{eqb}
 use borrow.Author.Tests.{eqb-true}
 use Rattle.board.proofs.Bools.{and-left, and-right}
-use Rattle.lines.specs.Premises.{Width}
+use Rattle.line_bytes.specs.Premises.{Width}
 use Rattle.machine.specs.Refusals.{alignedTo}
 
 pub record Aligned (width at : ℕ) : Type 0 where

@@ -1,4 +1,5 @@
 pub mod Tables
+pub mod Fits
 pub mod NumbersToCheck
 pub mod Determined
 pub mod Alignments

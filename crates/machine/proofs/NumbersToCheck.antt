@@ -3,11 +3,12 @@ use mathlib.Core.Path.{refl}
 use Rattle.address.specs.Addresses.{regionOf}
 use Rattle.board.specs.Lists.{part, splice}
 use Rattle.board.specs.Shapes.{fitsShape}
-use Rattle.board.specs.Pages.{lowestFrom, lowestFrame, mappedTo, freeFrame, directHome, homeBy, homeOf}
-use Rattle.lines.specs.Bytes.{number, digits, stored, lineOf, withLine}
+use Rattle.pages.specs.Pages.{lowestFrom, lowestFrame, mappedTo, freeFrame, directHome, homeBy, homeOf}
+use Rattle.line_bytes.specs.Bytes.{number, digits, stored, lineOf, withLine}
 use Rattle.lines.specs.Records.{lineAt, putLine}
-use Rattle.lines.specs.Stores.{holdsLine, holdsAt, holderFrom, holderOf, writtenBack, filled, noted, inserted, performedAt}
-use Rattle.lines.specs.Reach.{wayByHome, wayBy, wayOf, unreached, mayWrite}
+use Rattle.lines.specs.Holds.{holdsLine, holdsAt, holderFrom, holderOf}
+use Rattle.stores.specs.Stores.{writtenBack, filled, noted, inserted, performedAt}
+use Rattle.reach.specs.Reach.{wayByHome, wayBy, wayOf, unreached, mayWrite}
 use lib.Count.{ones, onesIn}
 use Rattle.machine.specs.Refusals.{byTable, alignedTo}
 use Rattle.machine.specs.Accesses.{performedOn, accessedBy, accessed, userTable, userAccess}

@@ -11,16 +11,16 @@ use Rattle.address.specs.Layout.{tableBytes, tableIndex, prefixLines, globalEnd
 use Rattle.address.specs.Addresses.{regionOf, prefixOf, nameOf, pageOf, pageOfName, ordinaryPage}
 use Rattle.address.specs.declared.Global.{Global}
 use Rattle.address.specs.declared.Region.the-variants.{Uncached, Cached, PageTable, Ordinary}
-use Rattle.board.specs.Pages.{mappedTo, directFrame, freeFrame, homeOf}
+use Rattle.pages.specs.Pages.{mappedTo, directFrame, freeFrame, homeOf}
 use Rattle.board.specs.declared.Shape.{Shape}
 use Rattle.board.specs.declared.Found.{Found}
 use Rattle.board.specs.declared.Found.the-variants.{At, Nothing}
 use Rattle.board.specs.declared.Home.{Home}
 use Rattle.board.specs.declared.Home.the-variants.{Line}
 use Rattle.board.proofs.Bools.{or-false}
-use Rattle.board.proofs.Frames.{mapped-none, direct-some, home-direct}
-use Rattle.lines.specs.Reach.{wayByHome, wayBy, wayOf, unreached}
-use Rattle.lines.specs.Stores.{holderOf}
+use Rattle.pages.proofs.Frames.{mapped-none, direct-some, home-direct}
+use Rattle.reach.specs.Reach.{wayByHome, wayBy, wayOf, unreached}
+use Rattle.lines.specs.Holds.{holderOf}
 use Rattle.machine.specs.Boards.{ways}
 use Rattle.machine.specs.Refusals.{wordInUse, outside}
 use Rattle.machine.specs.Accesses.{wayTo, frameUnder}

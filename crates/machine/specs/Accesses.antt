@@ -11,16 +11,17 @@ use Rattle.address.specs.declared.Physical.{Physical}
 use Rattle.address.specs.declared.Region.{Region}
 use Rattle.address.specs.declared.Region.the-variants.{Uncached, Cached, PageTable, Ordinary}
 use Rattle.board.specs.Answers.{answer}
-use Rattle.board.specs.Slots.{slotIndex, slotSegment}
+use Rattle.slots.specs.Slots.{slotIndex, slotSegment}
 use Rattle.board.specs.declared.Shape.{Shape}
 use Rattle.board.specs.declared.Pending.{Pending}
 use Rattle.board.specs.declared.Answer.{Answer}
-use Rattle.lines.specs.Bytes.{number, stored}
-use Rattle.lines.specs.Stores.{Store, store, placeOf, inserted, Performed, performedAt}
-use Rattle.lines.specs.Reach.{wayOf, unreached}
-use Rattle.lines.specs.declared.Access.{Access}
-use Rattle.lines.specs.declared.Way.{Way}
-use Rattle.lines.specs.declared.Way.the-variants.{Held, InMemory, Missing}
+use Rattle.line_bytes.specs.Bytes.{number, stored}
+use Rattle.stores.specs.Stores.{Store, store, inserted, Performed, performedAt}
+use Rattle.lines.specs.Holds.{placeOf}
+use Rattle.reach.specs.Reach.{wayOf, unreached}
+use Rattle.stores.specs.declared.Access.{Access}
+use Rattle.reach.specs.declared.Way.{Way}
+use Rattle.reach.specs.declared.Way.the-variants.{Held, InMemory, Missing}
 use Rattle.machine.specs.Boards.{ways, Board, Outcome, outcome, refused, withStore}
 use Rattle.machine.specs.Refusals.{Row, row, byTable, row1, isProcess, isGlobal, alignedTo, slotRows, lineRows, wordInUse, isOrdinary, isCached, outside}
 

@@ -11,7 +11,7 @@ use Rattle.board.specs.declared.Shape.{Shape}
 use Rattle.board.specs.declared.Pending.{Pending}
 use Rattle.board.specs.declared.Answer.{Answer}
 use Rattle.lines.specs.Records.{lineAt}
-use Rattle.lines.specs.Stores.{Store, store}
+use Rattle.stores.specs.Stores.{Store, store}
 
 -- the lines in a set: one in the base
 abbrev pub ways : ℕ

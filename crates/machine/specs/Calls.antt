@@ -6,17 +6,18 @@ use mathlib.Core.List.{List, [], _∷_}
 use lib.ListN.{getD, set}
 use lib.Dec.{eqb}
 use Rattle.address.specs.Addresses.{attachable, ordinaryPage, pageOfName}
-use Rattle.board.specs.Slots.{slotIndex, slotWord}
-use Rattle.board.specs.Pages.{frameWord, wordWrites, mappedTo, lineIn}
+use Rattle.slots.specs.Slots.{slotIndex, slotWord}
+use Rattle.pages.specs.Pages.{frameWord, wordWrites, mappedTo, lineIn}
 use Rattle.board.specs.declared.Shape.{Shape}
 use Rattle.board.specs.declared.Pending.{Pending}
 use Rattle.board.specs.declared.Found.{Found}
 use Rattle.board.specs.declared.Found.the-variants.{At, Nothing}
-use Rattle.lines.specs.Bytes.{zeroedFrame}
-use Rattle.lines.specs.Stores.{Store, store, placeOf, holderOf, inserted}
-use Rattle.lines.specs.Visits.{visitedAll}
-use Rattle.lines.specs.declared.Visit.{Visit}
-use Rattle.lines.specs.declared.Visit.the-variants.{Map, Unmap, Protect, Flush}
+use Rattle.line_bytes.specs.Bytes.{zeroedFrame}
+use Rattle.stores.specs.Stores.{Store, store, inserted}
+use Rattle.lines.specs.Holds.{placeOf, holderOf}
+use Rattle.visits.specs.Visits.{visitedAll}
+use Rattle.visits.specs.declared.Visit.{Visit}
+use Rattle.visits.specs.declared.Visit.the-variants.{Map, Unmap, Protect, Flush}
 use Rattle.machine.specs.Boards.{ways, Board, Outcome, refused, done, noTag, tagged, withSlots, withTag, withStore, withPages, Pages, pagesOf}
 use Rattle.machine.specs.Refusals.{Row, row, byTable, row1, isProcess, isSlot, isFrame, isPhysicalLine, isName, isMapped, wordInUse}
 

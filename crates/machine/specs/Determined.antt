@@ -11,7 +11,7 @@ use Rattle.address.specs.declared.Global.{Global}
 use Rattle.board.specs.declared.Shape.{Shape}
 use Rattle.board.specs.declared.Pending.{Pending}
 use Rattle.board.specs.declared.Answer.{Answer}
-use Rattle.lines.specs.declared.Access.{Access}
+use Rattle.stores.specs.declared.Access.{Access}
 use Rattle.machine.specs.Boards.{Board, board, Outcome, outcome}
 use Rattle.machine.specs.Accesses.{userAccess, supervisorAccess}
 use Rattle.machine.specs.Calls.{attach, detach, mapPage, unmap, protect, flushAll, tag, loadAndMap, dropTag}

@@ -3,7 +3,7 @@ use Prim.Native.Nat.{ℕ}
 use mathlib.Core.Bool.{not}
 use mathlib.Core.List.{List, [], _∷_}
 use Rattle.board.specs.declared.Shape.{Shape}
-use Rattle.lines.specs.Reach.{current}
+use Rattle.stores.specs.Stores.{current}
 use Rattle.machine.specs.Boards.{ways, Board}
 use Rattle.machine.specs.Refusals.{Row, row, byTable, lowest, row1, isPhysicalLine}
 

@@ -9,10 +9,10 @@ use Rattle.address.specs.Addresses.{effective, global, slotOf, pageOf, regionOf
 use Rattle.address.specs.declared.Global.{Global}
 use Rattle.address.specs.declared.Region.{Region}
 use Rattle.address.specs.declared.Region.the-variants.{Uncached, Cached, PageTable, Ordinary}
-use Rattle.board.specs.Slots.{slotWord}
-use Rattle.board.specs.Pages.{frameWord}
+use Rattle.slots.specs.Slots.{slotWord}
+use Rattle.pages.specs.Pages.{frameWord}
 use Rattle.board.specs.declared.Shape.{Shape}
-use Rattle.lines.specs.declared.Access.{Access}
+use Rattle.stores.specs.declared.Access.{Access}
 use Rattle.machine.specs.Boards.{Board, board, noTag, fresh, Outcome}
 use Rattle.machine.specs.Accesses.{userGlobal, userAccess}
 use Rattle.machine.specs.Calls.{attach}

@@ -9,13 +9,13 @@ use Rattle.address.specs.Addresses.{ordinaryPage, pageOfName}
 use Rattle.address.specs.declared.Global.{Global}
 use Rattle.address.specs.declared.Region.{Region}
 use Rattle.address.specs.declared.Region.the-variants.{Uncached, Cached, PageTable, Ordinary}
-use Rattle.board.specs.Slots.{slotEmpty, slotWrites}
+use Rattle.slots.specs.Slots.{slotEmpty, slotWrites}
 use Rattle.board.specs.declared.Shape.{Shape}
 use Rattle.board.specs.declared.Found.{Found}
 use Rattle.board.specs.declared.Found.the-variants.{At, Nothing}
-use Rattle.lines.specs.Reach.{unreached, mayWrite}
-use Rattle.lines.specs.declared.Access.{Access}
-use Rattle.lines.specs.declared.Way.{Way}
+use Rattle.reach.specs.Reach.{unreached, mayWrite}
+use Rattle.stores.specs.declared.Access.{Access}
+use Rattle.reach.specs.declared.Way.{Way}
 use Rattle.machine.specs.Boards.{Board, fitsBoard}
 
 -- a row of a table: a number, and whether it applies

@@ -1,10 +1,10 @@
 // Runs the numbers of 01's "Numbers to check" that are to be run, and writes the answers.
-use access::user_access;
 use address::Effective;
 use board::Pending;
 use board::Shape;
 use libc::STDOUT_FILENO;
-use lines::Access;
+use stores::Access;
+use user_access::user_access;
 
 // A name and a number, as a line.
 fn write_line(name: &[u8], number: u32) {

@@ -1,40 +1,18 @@
 // The calls for C and Rust, all but user access: numbers and slices go in, and the answer comes back as one number. A flag is
 // a number, and any but 0 says yes. No call asks anything of the numbers or of the buffers' lengths.
 ghost use mathlib.Core.Path.{_≡_};
-ghost use Prim.Native.Nat.{_*_, _<_};
-ghost use Rattle.address.specs.Layout.{pageLines};
 ghost use Rattle.address.specs.Addresses.{global};
 ghost use Rattle.board.specs.declared.Pending.{Pending};
-ghost use Rattle.lines.specs.Premises.{Sized};
-ghost use Rattle.lines.specs.Reach.{keeperOf};
-ghost use Rattle.machine.specs.Boards.{ways, board as boardOf, outcome};
+ghost use Rattle.machine.specs.Boards.{board as boardOf, outcome};
 ghost use Rattle.machine.specs.Accesses.{supervisorAccess};
 ghost use Rattle.machine.specs.Calls.{attach as attachCall, detach as detachCall, mapPage as mapCall, unmap as unmapCall, protect as protectCall, flushAll as flushCall, tag as tagCall, loadAndMap as loadAndMapCall, dropTag as dropTagCall};
 ghost use Rattle.machine.specs.Looks.{lookNumber as lookNumberOf};
 ghost use Rattle.crossing.specs.Packing.{unpacked, isYes, wordAfter, tagOf, shape, access};
-ghost use Rattle.oaledva.specs.Lends.{placeBy, lookPlace};
+ghost use Rattle.look_place.specs.Lends.{lookPlace};
 use address::Global;
-use board::Found;
-use board::LINE_BYTES;
 use board::Pending;
 use board::Shape;
-use lines::Access;
-
-// What look adds for a place in memory, and what it gives where it is refused.
-const IN_MEMORY: u64 = 9223372036854775808;
-
-const NOWHERE: u64 = 18446744073709551615;
-
-// Where a line's current bytes stand: in the cache bytes, or in memory.
-fn place_of_line(s: Shape, records: &[u64], cache: &[u8], memory: &[u8], line: usize) -> u64
-    requires { ⌜ Sized s (now records) (now cache) (now memory) × (line < pageLines * s .frames) ⌝ }
-    ensures { λ r. ⌜ r ≡ placeBy line (keeperOf ways s (now (records .entry)) line) ⌝ }
-{
-    match lines::keeper_of(s, records, line) {
-        Found::At(i) => (LINE_BYTES * i) as u64,
-        Found::Nothing => IN_MEMORY + (LINE_BYTES * line) as u64,
-    }
-}
+use stores::Access;
 
 // A supervisor's load or store by global address.
 #[no_mangle]
@@ -72,7 +50,7 @@ pub extern "C" fn oaledva_supervisor_access(
         width: width,
         value: value,
     };
-    let x = access::supervisor_access(
+    let x = supervisor_access::supervisor_access(
         s,
         slots,
         words,
@@ -111,7 +89,7 @@ pub extern "C" fn oaledva_attach(
         processes: processes,
         lines: lines,
     };
-    let x = calls::attach(
+    let x = slot_calls::attach(
         s,
         slots,
         words,
@@ -149,7 +127,7 @@ pub extern "C" fn oaledva_detach(
         processes: processes,
         lines: lines,
     };
-    let x = calls::detach(s, slots, words, records, cache, memory, process, slot);
+    let x = slot_calls::detach(s, slots, words, records, cache, memory, process, slot);
     crossing::packed_answer(x)
 }
 
@@ -177,7 +155,7 @@ pub extern "C" fn oaledva_map(
         processes: processes,
         lines: lines,
     };
-    let x = calls::map(
+    let x = map_call::map(
         s,
         slots,
         words,
@@ -213,7 +191,7 @@ pub extern "C" fn oaledva_unmap(
         processes: processes,
         lines: lines,
     };
-    let x = calls::unmap(s, slots, words, records, cache, memory, page);
+    let x = page_calls::unmap(s, slots, words, records, cache, memory, page);
     crossing::packed_answer(x)
 }
 
@@ -240,7 +218,7 @@ pub extern "C" fn oaledva_protect(
         processes: processes,
         lines: lines,
     };
-    let x = calls::protect(s, slots, words, records, cache, memory, page, write != 0);
+    let x = page_calls::protect(s, slots, words, records, cache, memory, page, write != 0);
     crossing::packed_answer(x)
 }
 
@@ -265,7 +243,7 @@ pub extern "C" fn oaledva_flush_all(
         processes: processes,
         lines: lines,
     };
-    let x = calls::flush_all(s, slots, words, records, cache, memory);
+    let x = line_calls::flush_all(s, slots, words, records, cache, memory);
     crossing::packed_answer(x)
 }
 
@@ -298,7 +276,7 @@ pub extern "C" fn oaledva_tag(
         set: *set != 0,
         name: *name,
     };
-    let x = calls::tag(s, slots, words, records, cache, memory, tag, line);
+    let x = tag_calls::tag(s, slots, words, records, cache, memory, tag, line);
     *set = crossing::word_after(*set, x.tag.set);
     *name = x.tag.name;
     crossing::packed_answer(x.answer)
@@ -333,7 +311,7 @@ pub extern "C" fn oaledva_load_and_map(
         set: *set != 0,
         name: *name,
     };
-    let x = calls::load_and_map(s, slots, words, records, cache, memory, tag, line);
+    let x = tag_calls::load_and_map(s, slots, words, records, cache, memory, tag, line);
     *set = crossing::word_after(*set, x.tag.set);
     *name = x.tag.name;
     crossing::packed_answer(x.answer)
@@ -367,7 +345,7 @@ pub extern "C" fn oaledva_drop_tag(
         set: *set != 0,
         name: *name,
     };
-    let x = calls::drop_tag(s, slots, words, records, cache, memory, tag);
+    let x = tag_calls::drop_tag(s, slots, words, records, cache, memory, tag);
     *set = crossing::word_after(*set, x.tag.set);
     *name = x.tag.name;
     crossing::packed_answer(x.answer)
@@ -395,7 +373,7 @@ pub extern "C" fn oaledva_look_number(
         processes: processes,
         lines: lines,
     };
-    calls::look_number(s, slots, words, records, cache, memory, line)
+    line_calls::look_number(s, slots, words, records, cache, memory, line)
 }
 
 // Where the current sixteen bytes of a physical line stand in the caller's own buffers.
@@ -420,8 +398,5 @@ pub extern "C" fn oaledva_look(
         processes: processes,
         lines: lines,
     };
-    if calls::look_number(s, slots, words, records, cache, memory, line) == 0 {
-        return place_of_line(s, records, cache, memory, line);
-    }
-    NOWHERE
+    look_place::place(s, slots, words, records, cache, memory, line)
 }

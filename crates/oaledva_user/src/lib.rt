@@ -7,7 +7,7 @@ ghost use Rattle.crossing.specs.Packing.{unpacked, tagOf, shape, access};
 use address::Effective;
 use board::Pending;
 use board::Shape;
-use lines::Access;
+use stores::Access;
 
 // A user's load or store.
 #[no_mangle]
@@ -46,7 +46,7 @@ pub extern "C" fn oaledva_user_access(
         width: width,
         value: value,
     };
-    let x = access::user_access(
+    let x = user_access::user_access(
         s,
         slots,
         words,

@@ -11,12 +11,12 @@ use borrow.Author.Tests.{eqb-true, eqb-false, eq-eqb, ltb-true, leb-false, not-f
 use Rattle.address.specs.Layout.{kernelStart}
 use Rattle.address.specs.Addresses.{slotOf, pageOf}
 use Rattle.address.specs.declared.Effective.{Effective}
-use Rattle.board.specs.Slots.{slotIndex, slotSegment, slotWrites, slotEmpty}
-use Rattle.board.specs.Pages.{wordWrites, mappedTo}
+use Rattle.slots.specs.Slots.{slotIndex, slotSegment, slotWrites, slotEmpty}
+use Rattle.pages.specs.Pages.{wordWrites, mappedTo}
 use Rattle.board.specs.declared.Shape.{Shape}
 use Rattle.board.proofs.Bools.{clash, or-left, or-right}
 use Rattle.board.proofs.Shapes.{Shaped}
-use Rattle.lines.specs.declared.Access.{Access}
+use Rattle.stores.specs.declared.Access.{Access}
 use Rattle.machine.specs.Refusals.{row, alignedTo}
 use Rattle.machine.specs.Accesses.{slotWordAt, userGlobal, userRows}
 use Rattle.machine.proofs.Tables.{Passed}
@@ -24,7 +24,7 @@ use Rattle.machine.proofs.Alignments.{aligned-inside}
 use Rattle.promises.specs.Plain.{Plain, plainRow1, addressFrame, addressMapped}
 use Rattle.promises.specs.Runs.{tag}
 use Rattle.promises.specs.Demand3.{wordHolds, wordWritesTo, someSlot, holds, holdsForWriting, segmentOfPage}
-use Rattle.promises.proofs.Maps.{Mapped, mapped-frame, found-at}
+use Rattle.page_laws.proofs.Maps.{Mapped, mapped-frame, found-at}
 use Rattle.promises.proofs.Shapes.{plain-shaped}
 
 -- a slot of the process that passes the test: one of its slots does

@@ -6,7 +6,7 @@ use mathlib.Core.List.{List, [], _∷_}
 use lib.Dec.{eqb}
 use borrow.Author.Tests.{eqb-true, eqb-false}
 use Rattle.address.specs.Layout.{pageLines}
-use Rattle.board.specs.Pages.{mappedTo}
+use Rattle.pages.specs.Pages.{mappedTo}
 use Rattle.board.specs.declared.Shape.{Shape}
 use Rattle.board.specs.declared.Found.the-variants.{At}
 use Rattle.board.proofs.Bools.{or-left, or-right}

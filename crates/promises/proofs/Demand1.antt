@@ -16,11 +16,11 @@ use Rattle.address.specs.declared.Region.{Region}
 use Rattle.address.specs.declared.Region.the-variants.{Uncached, Cached, PageTable, Ordinary}
 use Rattle.board.specs.declared.Shape.{Shape}
 use Rattle.board.proofs.Bools.{clash, and-left, and-right, cond-both}
-use Rattle.lines.specs.Stores.{Store}
-use Rattle.lines.specs.Reach.{unreached}
-use Rattle.lines.specs.declared.Access.{Access}
-use Rattle.lines.specs.declared.Way.{Way}
-use Rattle.lines.specs.declared.Way.the-variants.{Held, InMemory, Missing}
+use Rattle.stores.specs.Stores.{Store}
+use Rattle.reach.specs.Reach.{unreached}
+use Rattle.stores.specs.declared.Access.{Access}
+use Rattle.reach.specs.declared.Way.{Way}
+use Rattle.reach.specs.declared.Way.the-variants.{Held, InMemory, Missing}
 use Rattle.machine.specs.Boards.{Board, Outcome, refused}
 use Rattle.machine.specs.Refusals.{Row, byTable, outside, wordInUse, isOrdinary, isCached}
 use Rattle.machine.specs.Accesses.{Reached, accessedBy, accessed, performedOn, wayTo, userGlobal, userTable, userAccess, frameUnder, supervisorTable, memoryAccess, supervisorDone, supervisorAccess}

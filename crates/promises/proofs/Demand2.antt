@@ -6,8 +6,8 @@ use mathlib.Core.Bool.{Bool, true, false, not, cond}
 use mathlib.Core.List.{List, []}
 use borrow.Author.Tests.{ltb-true}
 use Rattle.board.specs.declared.Shape.{Shape}
-use Rattle.lines.specs.Bytes.{lineOf}
-use Rattle.lines.specs.Reach.{current}
+use Rattle.line_bytes.specs.Bytes.{lineOf}
+use Rattle.stores.specs.Stores.{current}
 use Rattle.machine.specs.Boards.{Board, fitsBoard, refused}
 use Rattle.machine.specs.Refusals.{byTable, isPhysicalLine}
 use Rattle.machine.specs.Accesses.{userTable, userAccess, supervisorTable, supervisorAccess}
@@ -16,7 +16,7 @@ use Rattle.machine.specs.Looks.{lookNumber, look}
 use Rattle.promises.specs.Plain.{Plain, plainRefused, plainUser, plainSupervisor, plainAttach, plainDetach, plainMap, plainUnmap, plainProtect, plainFlush, plainTagging, plainLoadAndMap, plainDropTag, plainLookNumber, plainLook}
 use Rattle.promises.specs.Runs.{Supervisor, access, attach, detach, map, unmap, protect, flushAll, tag, loadAndMap, dropTag, Call, user, supervisor, supervise, step, after, plainSupervise, plainStep, plainOf}
 use Rattle.promises.specs.Demand2.{Alike, Demand2, Demand2Sound}
-use Rattle.promises.proofs.Reaching.{look-same}
+use Rattle.page_laws.proofs.Reaching.{look-same}
 use Rattle.promises.proofs.Related.{Related, lengths-same}
 use Rattle.promises.proofs.RelatedCalls.{related-attach, related-detach, related-map, related-unmap, related-protect, related-flush, related-tag, related-load, related-drop}
 use Rattle.promises.proofs.RelatedAccesses.{related-user, related-supervisor}

@@ -11,15 +11,16 @@ use lib.Dec.{eqb}
 use Rattle.board.specs.Answers.{answer}
 use Rattle.board.specs.Lists.{part, splice}
 use Rattle.board.specs.Shapes.{fitsShape}
-use Rattle.board.specs.Slots.{slotIndex, slotWord}
-use Rattle.board.specs.Pages.{frameWord, lowestFrom, lowestFrame, mappedTo, homeBy, homeOf}
+use Rattle.slots.specs.Slots.{slotIndex, slotWord}
+use Rattle.pages.specs.Pages.{frameWord, lowestFrom, lowestFrame, mappedTo, homeBy, homeOf}
 use Rattle.board.specs.declared.Answer.{Answer}
-use Rattle.lines.specs.Bytes.{number, digits, stored, lineOf, withLine, zeros, zeroedFrame}
+use Rattle.line_bytes.specs.Bytes.{number, digits, stored, lineOf, withLine, zeros, zeroedFrame}
 use Rattle.lines.specs.Records.{lineAt, putLine}
-use Rattle.lines.specs.Stores.{holdsLine, holdsAt, holderFrom, holderOf, writtenBack, filled, noted, inserted, performedAt}
-use Rattle.lines.specs.Reach.{wayByHome, wayBy, wayOf, unreached, mayWrite}
-use Rattle.lines.specs.Visits.{visited, sweep, visitedAll}
-use Rattle.lines.proofs.Bytes.{length-zeros}
+use Rattle.lines.specs.Holds.{holdsLine, holdsAt, holderFrom, holderOf}
+use Rattle.stores.specs.Stores.{writtenBack, filled, noted, inserted, performedAt}
+use Rattle.reach.specs.Reach.{wayByHome, wayBy, wayOf, unreached, mayWrite}
+use Rattle.visits.specs.Visits.{visited, sweep, visitedAll}
+use Rattle.line_bytes.proofs.Bytes.{length-zeros}
 use Rattle.machine.specs.Boards.{Board, board, noTag, outcome}
 use Rattle.machine.specs.Refusals.{byTable, alignedTo, isMapped}
 use Rattle.machine.specs.Accesses.{performedOn, accessedBy, accessed, userTable, userAccess}

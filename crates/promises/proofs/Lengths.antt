@@ -13,15 +13,16 @@ use Rattle.board.specs.declared.Shape.{Shape}
 use Rattle.board.specs.declared.Found.{Found}
 use Rattle.board.specs.declared.Found.the-variants.{At, Nothing}
 use Rattle.board.proofs.Bools.{cond-both}
-use Rattle.lines.specs.Stores.{Store, store, holderOf, writtenBack, filled, noted, inserted, performedAt, Performed}
-use Rattle.lines.specs.Visits.{visitedAll}
-use Rattle.lines.specs.declared.Access.{Access}
+use Rattle.stores.specs.Stores.{Store, store, writtenBack, filled, noted, inserted, performedAt, Performed}
+use Rattle.lines.specs.Holds.{holderOf}
+use Rattle.visits.specs.Visits.{visitedAll}
+use Rattle.stores.specs.declared.Access.{Access}
 use Rattle.lines.specs.declared.Line.{Line}
-use Rattle.lines.specs.declared.Visit.{Visit}
-use Rattle.lines.specs.declared.Visit.the-variants.{Map, Unmap, Protect, Flush}
-use Rattle.lines.specs.declared.Way.{Way}
-use Rattle.lines.specs.declared.Way.the-variants.{Held, InMemory, Missing}
-use Rattle.lines.proofs.Bytes.{length-stored, length-line}
+use Rattle.visits.specs.declared.Visit.{Visit}
+use Rattle.visits.specs.declared.Visit.the-variants.{Map, Unmap, Protect, Flush}
+use Rattle.reach.specs.declared.Way.{Way}
+use Rattle.reach.specs.declared.Way.the-variants.{Held, InMemory, Missing}
+use Rattle.line_bytes.proofs.Bytes.{length-stored, length-line}
 use Rattle.lines.proofs.Records.{length-put}
 use Rattle.machine.specs.Boards.{ways, Board, Outcome, refused, withSlots, withStore, withPages, fitsBoard}
 use Rattle.machine.specs.Refusals.{Row, byTable}
@@ -30,9 +31,9 @@ use Rattle.machine.specs.Calls as board
 use Rattle.machine.specs.Calls.{zeroedStore, mapped, unmapped, protected, loaded, loadedBy}
 use Rattle.machine.proofs.Tables.{table-cases}
 use Rattle.promises.specs.Runs.{Supervisor, access, attach, detach, map, unmap, protect, flushAll, tag, loadAndMap, dropTag, Call, user, supervisor, supervise, step}
-use Rattle.promises.proofs.Zeroed.{length-zeroed}
-use Rattle.promises.proofs.Steps.{written-records, written-cache, length-written}
-use Rattle.promises.proofs.Sweeps.{swept-cache}
+use Rattle.store_laws.proofs.Zeroed.{length-zeroed}
+use Rattle.store_laws.proofs.Steps.{written-records, written-cache, length-written}
+use Rattle.store_laws.proofs.Sweeps.{swept-cache}
 
 -- a store with lists as long as another's
 record SameSizes (x y : Store) : Type 0 where

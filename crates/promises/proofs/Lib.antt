@@ -1,15 +1,4 @@
--- From the bottom up. The store and the flat memory
-pub mod Sim
-pub mod Bytes
-pub mod Zeroed
-pub mod Searches
-pub mod Held
-pub mod Steps
-pub mod Sweeps
-pub mod Maps
-pub mod Remap
-pub mod Reaching
--- the board and the plain machine, call by call
+-- From the bottom up. The board and the plain machine, call by call
 pub mod Shapes
 pub mod Related
 pub mod RelatedCalls

@@ -9,7 +9,7 @@ use lib.Seq.{getD-set-same, getD-set-other}
 use lib.Dec.{eqb}
 use borrow.Author.Tests.{eqb-true, eqb-false}
 use Rattle.address.specs.Addresses.{ordinaryPage}
-use Rattle.board.specs.Pages.{frameWord, namesPage, mappedTo}
+use Rattle.pages.specs.Pages.{frameWord, namesPage, mappedTo}
 use Rattle.board.specs.declared.Shape.{Shape}
 use Rattle.board.specs.declared.Found.the-variants.{At, Nothing}
 use Rattle.board.proofs.Bools.{clash}
@@ -21,7 +21,7 @@ use Rattle.machine.specs.Calls.{foundFrame, mapped, unmapped, protected}
 use Rattle.machine.proofs.Tables.{Passed, table-cases}
 use Rattle.promises.specs.Runs.{Supervisor, access, attach, detach, map, unmap, protect, flushAll, tag, loadAndMap, dropTag, Call, user, supervisor, supervise, step}
 use Rattle.promises.specs.Sound.{PagesOnce}
-use Rattle.promises.proofs.Maps.{names-word, frame-word-page, mapped-frame, mapped-nothing, found-at, found-nothing}
+use Rattle.page_laws.proofs.Maps.{names-word, frame-word-page, mapped-frame, mapped-nothing, found-at, found-nothing}
 use Rattle.promises.proofs.Shapes.{board-shaped}
 
 module _ (s : Shape) (words : List ℕ) (size : length words ≡ s .frames) (once : PagesOnce s words) where

@@ -16,21 +16,22 @@ use Rattle.address.specs.declared.Region.the-variants.{Uncached, Cached, PageTa
 use Rattle.board.specs.declared.Shape.{Shape}
 use Rattle.board.proofs.Bools.{cond-both}
 use Rattle.lines.specs.Records.{lineAt, changedLine}
-use Rattle.lines.specs.Stores.{Store, store, placeOf, writtenBack, filled, noted, inserted, Performed, performedAt}
-use Rattle.lines.specs.declared.Access.{Access}
+use Rattle.stores.specs.Stores.{Store, store, writtenBack, filled, noted, inserted, Performed, performedAt}
+use Rattle.lines.specs.Holds.{placeOf}
+use Rattle.stores.specs.declared.Access.{Access}
 use Rattle.lines.specs.declared.Line.{Line}
-use Rattle.lines.specs.declared.Way.{Way}
-use Rattle.lines.specs.declared.Way.the-variants.{Held, InMemory, Missing}
+use Rattle.reach.specs.declared.Way.{Way}
+use Rattle.reach.specs.declared.Way.the-variants.{Held, InMemory, Missing}
 use Rattle.lines.proofs.Records.{line-put-other}
-use Rattle.lines.proofs.Stores.{way-held-place}
+use Rattle.reach.proofs.Reach.{way-held-place}
 use Rattle.machine.specs.Boards.{ways, Board, Outcome, refused}
 use Rattle.machine.specs.Refusals.{Row, byTable, alignedTo}
 use Rattle.machine.specs.Accesses.{Reached, performedOn, accessedBy, accessed, wayTo, userGlobal, userTable, userAccess, memoryAccess, supervisorTable, supervisorDone, supervisorAccess, onBoard}
 use Rattle.machine.proofs.Tables.{Passed, table-cases}
 use Rattle.machine.proofs.Alignments.{aligned-inside}
 use Rattle.promises.specs.Demand2.{OnlyAt, Demand2Place}
-use Rattle.promises.proofs.Bytes.{line-stored-other, line-with-other}
-use Rattle.promises.proofs.Steps.{written-records, written-cache}
+use Rattle.store_laws.proofs.Bytes.{line-stored-other, line-with-other}
+use Rattle.store_laws.proofs.Steps.{written-records, written-cache}
 
 -- ---- the steps of an access
 

@@ -5,7 +5,7 @@ use mathlib.Core.Path.{_≡_, refl, sym, _∙_}
 use mathlib.Core.Bool.{Bool, true, false, cond}
 use mathlib.Core.List.{List}
 use lib.ListN.{length}
-use Rattle.board.specs.Pages.{homeOf}
+use Rattle.pages.specs.Pages.{homeOf}
 use Rattle.board.specs.declared.Shape.{Shape}
 use Rattle.board.specs.declared.Answer.{Answer}
 use Rattle.machine.specs.Boards.{Board, fitsBoard, Outcome, outcome, refused}
@@ -13,8 +13,8 @@ use Rattle.machine.specs.Refusals.{Row, byTable}
 use Rattle.machine.proofs.Tables.{Passed, table-both}
 use Rattle.promises.specs.Plain.{Given, given, plainRefused}
 use Rattle.promises.specs.Runs.{plainOf}
-use Rattle.promises.proofs.Sim.{Homes, Sim}
-use Rattle.promises.proofs.Maps.{homes-map}
+use Rattle.store_laws.proofs.Sim.{Homes, Sim}
+use Rattle.page_laws.proofs.Maps.{homes-map}
 use Rattle.promises.proofs.Shapes.{board-shaped}
 
 -- the board's outcome and what the plain machine gives: the same number and value, and a board that stands for the plain machine after

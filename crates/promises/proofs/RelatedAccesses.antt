@@ -14,17 +14,17 @@ use Rattle.address.specs.declared.Effective.{Effective}
 use Rattle.address.specs.declared.Global.{Global}
 use Rattle.address.specs.declared.Region.{Region}
 use Rattle.address.specs.declared.Region.the-variants.{Uncached, Cached, PageTable, Ordinary}
-use Rattle.board.specs.Slots.{slotSegment}
-use Rattle.board.specs.Pages.{wordWrites, mappedTo, homeOf}
+use Rattle.slots.specs.Slots.{slotSegment}
+use Rattle.pages.specs.Pages.{wordWrites, mappedTo, homeOf}
 use Rattle.board.specs.declared.Shape.{Shape}
 use Rattle.board.specs.declared.Found.{Found}
 use Rattle.board.specs.declared.Found.the-variants.{At, Nothing}
 use Rattle.board.specs.declared.Home.the-variants.{Line}
 use Rattle.board.proofs.Bools.{and-left, and-right}
-use Rattle.lines.specs.Bytes.{number, stored}
-use Rattle.lines.specs.Stores.{store}
-use Rattle.lines.specs.Reach.{unreached, mayWrite}
-use Rattle.lines.specs.declared.Access.{Access}
+use Rattle.line_bytes.specs.Bytes.{number, stored}
+use Rattle.stores.specs.Stores.{store}
+use Rattle.reach.specs.Reach.{unreached, mayWrite}
+use Rattle.stores.specs.declared.Access.{Access}
 use Rattle.machine.specs.Boards.{Board, fitsBoard, Outcome, refused, withStore}
 use Rattle.machine.specs.Refusals.{Row, row, byTable, row1, lineRows, isMapped, isOrdinary, isCached, isGlobal, wordInUse, alignedTo, outside}
 use Rattle.machine.specs.Accesses.{Reached, onBoard, wayTo, accessed, userRows, userTable, userGlobal, slotWordAt, userAccess, frameUnder, memoryAccess, supervisorTable, supervisorDone, supervisorAccess}
@@ -34,10 +34,10 @@ use Rattle.machine.proofs.Alignments.{aligned-inside}
 use Rattle.machine.proofs.Prefixes.{region-cached, region-ordinary, prefix-home}
 use Rattle.promises.specs.Plain.{Plain, Given, given, plainRefused, plainAccess, addressMapped, addressFrame, addressAt, plainUser, supervisorAt, plainSupervisor}
 use Rattle.promises.specs.Runs.{plainOf}
-use Rattle.promises.proofs.Sim.{Sim}
-use Rattle.promises.proofs.Maps.{mapped-home, unmapped-home}
-use Rattle.promises.proofs.Remap.{memory-same, sim-memory}
-use Rattle.promises.proofs.Reaching.{way-nowhere, way-reached, way-writes, accessed-same}
+use Rattle.store_laws.proofs.Sim.{Sim}
+use Rattle.page_laws.proofs.Maps.{mapped-home, unmapped-home}
+use Rattle.page_laws.proofs.Remap.{memory-same, sim-memory}
+use Rattle.page_laws.proofs.Reaching.{way-nowhere, way-reached, way-writes, accessed-same}
 use Rattle.promises.proofs.Shapes.{board-shaped}
 use Rattle.promises.proofs.Related.{Related, board-homes, lengths-same, related-refused, related-done, related-table, related-row}
 

@@ -8,23 +8,23 @@ use lib.ListN.{length, set}
 use lib.Dec.{leb, ltb}
 use borrow.Author.Tests.{not-false, ltb-true, eqb-true}
 use Rattle.address.specs.Addresses.{ordinaryPage}
-use Rattle.board.specs.Pages.{frameWord, mappedTo, homeOf}
+use Rattle.pages.specs.Pages.{frameWord, mappedTo, homeOf}
 use Rattle.board.specs.Answers.{answer}
 use Rattle.board.specs.declared.Shape.{Shape}
 use Rattle.board.proofs.Bools.{and-left, and-right}
 use Rattle.board.proofs.Shapes.{Shaped}
-use Rattle.lines.specs.Bytes.{zeroedFrame}
-use Rattle.lines.specs.Visits.{visitedAll}
-use Rattle.lines.specs.declared.Visit.the-variants.{Flush}
+use Rattle.line_bytes.specs.Bytes.{zeroedFrame}
+use Rattle.visits.specs.Visits.{visitedAll}
+use Rattle.visits.specs.declared.Visit.the-variants.{Flush}
 use Rattle.machine.specs.Boards.{Board, fitsBoard, done, noTag, withTag, withStore, withPages, pagesOf}
 use Rattle.machine.specs.Refusals.{isFrame}
 use Rattle.machine.specs.Calls.{foundFrame, attach, attachTable, detach, detachTable, mapPage, mapTable, mapped, unmap, pageTable, unmapped, protect, protected, flushAll, flushTable, tag, tagTable, loadAndMap, loadAndMapTable, loaded, nameFrame, nameLine, nameWrites, dropTag, dropTagTable}
 use Rattle.promises.specs.Plain.{plainDone, plainTag, plainWords, plainAttach, plainDetach, plainMap, plainUnmap, plainProtect, plainFlush, plainTagging, plainLoadAndMap, plainDropTag}
 use Rattle.promises.specs.Runs.{plainOf}
-use Rattle.promises.proofs.Sim.{Sim}
-use Rattle.promises.proofs.Maps.{found-at, found-nothing, mapped-home}
-use Rattle.promises.proofs.Remap.{sim-cleared, sim-unmapped, sim-protected, sim-flushed}
-use Rattle.promises.proofs.Reaching.{loaded-same}
+use Rattle.store_laws.proofs.Sim.{Sim}
+use Rattle.page_laws.proofs.Maps.{found-at, found-nothing, mapped-home}
+use Rattle.page_laws.proofs.Remap.{sim-cleared, sim-unmapped, sim-protected, sim-flushed}
+use Rattle.page_laws.proofs.Reaching.{loaded-same}
 use Rattle.promises.proofs.Shapes.{board-shaped}
 use Rattle.promises.proofs.Related.{Related, board-homes, lengths-same, related-done, related-table}
 

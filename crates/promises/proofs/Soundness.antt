@@ -7,22 +7,23 @@ use mathlib.Core.List.{List}
 use native.Mathlib.Omega.{arith}
 use native.Mathlib.Nat.{div-one}
 use lib.ListN.{getD, replicate}
-use Rattle.board.specs.Pages.{homeOf, namesPage}
+use Rattle.pages.specs.Pages.{homeOf, namesPage}
 use Rattle.board.specs.declared.Shape.{Shape}
 use Rattle.board.specs.declared.Found.{Found}
 use Rattle.board.specs.declared.Found.the-variants.{At, Nothing}
 use Rattle.board.proofs.Bools.{clash, and-left}
-use Rattle.lines.specs.Bytes.{lineOf}
+use Rattle.line_bytes.specs.Bytes.{lineOf}
 use Rattle.lines.specs.Records.{lineAt}
-use Rattle.lines.specs.Stores.{holdsAt, holdsLine}
-use Rattle.lines.specs.Reach.{keeperOf, currentBy, current}
+use Rattle.lines.specs.Holds.{holdsAt, holdsLine}
+use Rattle.lines.specs.Holds.{keeperOf}
+use Rattle.stores.specs.Stores.{currentBy, current}
 use Rattle.machine.specs.Boards.{Board, fitsBoard, Fresh, fresh}
 use Rattle.promises.specs.Sound.{Sound, Shows, PagesOnce, FreshSound}
-use Rattle.promises.proofs.Sim.{Sim}
-use Rattle.promises.proofs.Bytes.{line-ext, line-at}
-use Rattle.promises.proofs.Zeroed.{zeros-at}
-use Rattle.promises.proofs.Held.{held-in, held-listed, held-below, keeper-some, keeper-nothing}
-use Rattle.promises.proofs.Maps.{names-word}
+use Rattle.store_laws.proofs.Sim.{Sim}
+use Rattle.store_laws.proofs.Bytes.{line-ext, line-at}
+use Rattle.store_laws.proofs.Zeroed.{zeros-at}
+use Rattle.store_laws.proofs.Held.{held-in, held-listed, held-below, keeper-some, keeper-nothing}
+use Rattle.page_laws.proofs.Maps.{names-word}
 use Rattle.promises.proofs.Shapes.{board-shaped, lines-pos}
 
 -- a board stands for a flat memory

@@ -15,15 +15,15 @@ use Rattle.address.specs.declared.Effective.{Effective}
 use Rattle.address.specs.declared.Global.{Global}
 use Rattle.address.specs.declared.Region.{Region}
 use Rattle.address.specs.declared.Region.the-variants.{Uncached, Cached, PageTable, Ordinary}
-use Rattle.board.specs.Slots.{slotSegment}
-use Rattle.board.specs.Pages.{namesPage, frameWord, mappedTo}
+use Rattle.slots.specs.Slots.{slotSegment}
+use Rattle.pages.specs.Pages.{namesPage, frameWord, mappedTo}
 use Rattle.board.specs.declared.Shape.{Shape}
 use Rattle.board.specs.declared.Found.the-variants.{At}
 use Rattle.board.proofs.Bools.{clash, and-right}
 use Rattle.board.proofs.Shapes.{Shaped}
-use Rattle.lines.specs.Bytes.{number, digits, stored, zeroedFrame}
-use Rattle.lines.specs.declared.Access.{Access}
-use Rattle.lines.proofs.Bytes.{length-stored}
+use Rattle.line_bytes.specs.Bytes.{number, digits, stored, zeroedFrame}
+use Rattle.stores.specs.declared.Access.{Access}
+use Rattle.line_bytes.proofs.Bytes.{length-stored}
 use Rattle.machine.specs.Refusals.{Row, byTable, isFrame, isMapped}
 use Rattle.machine.specs.Accesses.{slotWordAt, userGlobal}
 use Rattle.machine.specs.Calls.{foundFrame}
@@ -31,9 +31,9 @@ use Rattle.machine.proofs.Tables.{Passed, table-both, table-cases}
 use Rattle.promises.specs.Plain.{Plain, Given, given, plainRefused, plainRow1, withMemory, plainWords, plainAccess, addressFrame, addressAt, plainUser, supervisorAt, plainSupervisor, plainAttach, plainDetach, plainMap, plainUnmap, plainProtect, plainFlush, plainTagging, plainLoadAndMap, plainDropTag, plainLook}
 use Rattle.promises.specs.Runs.{Supervisor, access, attach, detach, map, unmap, protect, flushAll, tag, loadAndMap, dropTag, Call, user, supervisor, plainReply, plainSupervise, plainStep}
 use Rattle.promises.specs.Demand3.{holds, holdsForWriting, segmentOfPage}
-use Rattle.promises.proofs.Bytes.{splice-match, number-same, stored-out, line-same}
-use Rattle.promises.proofs.Zeroed.{length-zeroed, zeroed-in, zeroed-out}
-use Rattle.promises.proofs.Maps.{names-word, frame-word-page, Mapped, mapped-frame, found-at}
+use Rattle.store_laws.proofs.Bytes.{splice-match, number-same, stored-out, line-same}
+use Rattle.store_laws.proofs.Zeroed.{length-zeroed, zeroed-in, zeroed-out}
+use Rattle.page_laws.proofs.Maps.{names-word, frame-word-page, Mapped, mapped-frame, found-at}
 use Rattle.promises.proofs.Shapes.{plain-shaped}
 use Rattle.promises.proofs.Admitted.{UserPassed, Admitted, admitted, admitted-holds, admitted-writes}
 

@@ -8,10 +8,11 @@ use Rattle.address.specs.declared.Effective.{Effective}
 use Rattle.address.specs.declared.Global.{Global}
 use Rattle.address.specs.declared.Region.the-variants.{Uncached}
 use Rattle.board.specs.declared.Shape.{Shape}
-use Rattle.lines.specs.Bytes.{lineOf}
+use Rattle.line_bytes.specs.Bytes.{lineOf}
 use Rattle.lines.specs.Records.{lineAt}
-use Rattle.lines.specs.Stores.{Store, placeOf}
-use Rattle.lines.specs.declared.Access.{Access}
+use Rattle.stores.specs.Stores.{Store}
+use Rattle.lines.specs.Holds.{placeOf}
+use Rattle.stores.specs.declared.Access.{Access}
 use Rattle.machine.specs.Boards.{ways, Board, Fresh}
 use Rattle.machine.specs.Accesses.{userGlobal, userAccess, supervisorAccess}
 use Rattle.machine.specs.Looks.{lookNumber, look}

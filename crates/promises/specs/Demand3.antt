@@ -6,8 +6,8 @@ use mathlib.Core.List.{List, [], _∷_}
 use lib.ListN.{getD}
 use lib.Dec.{eqb}
 use Rattle.address.specs.Layout.{segmentBytes, pageBytes, pageLines, processSlots}
-use Rattle.board.specs.Slots.{slotIndex, slotSegment, slotWrites, slotEmpty}
-use Rattle.board.specs.Pages.{mappedTo}
+use Rattle.slots.specs.Slots.{slotIndex, slotSegment, slotWrites, slotEmpty}
+use Rattle.pages.specs.Pages.{mappedTo}
 use Rattle.board.specs.declared.Shape.{Shape}
 use Rattle.board.specs.declared.Found.{Found}
 use Rattle.board.specs.declared.Found.the-variants.{At}

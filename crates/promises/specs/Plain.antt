@@ -12,12 +12,12 @@ use Rattle.address.specs.declared.Global.{Global}
 use Rattle.address.specs.declared.Region.{Region}
 use Rattle.address.specs.declared.Region.the-variants.{Uncached, Cached, PageTable, Ordinary}
 use Rattle.board.specs.Shapes.{fitsShape}
-use Rattle.board.specs.Slots.{slotIndex, slotWord, slotSegment, slotEmpty, slotWrites}
-use Rattle.board.specs.Pages.{frameWord, wordWrites, mappedTo}
+use Rattle.slots.specs.Slots.{slotIndex, slotWord, slotSegment, slotEmpty, slotWrites}
+use Rattle.pages.specs.Pages.{frameWord, wordWrites, mappedTo}
 use Rattle.board.specs.declared.Shape.{Shape}
 use Rattle.board.specs.declared.Pending.{Pending}
-use Rattle.lines.specs.Bytes.{number, stored, lineOf, zeroedFrame}
-use Rattle.lines.specs.declared.Access.{Access}
+use Rattle.line_bytes.specs.Bytes.{number, stored, lineOf, zeroedFrame}
+use Rattle.stores.specs.declared.Access.{Access}
 use Rattle.machine.specs.Boards.{noTag, tagged}
 use Rattle.machine.specs.Refusals.{Row, row, byTable, lowest, isProcess, isSlot, isPhysicalLine, isName, isGlobal, isOrdinary, isCached, isMapped, wordInUse, alignedTo, outside}
 use Rattle.machine.specs.Accesses.{frameUnder}

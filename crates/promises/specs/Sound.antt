@@ -6,14 +6,15 @@ use mathlib.Core.List.{List}
 use lib.ListN.{length, getD}
 use Rattle.address.specs.Layout.{pageLines}
 use Rattle.address.specs.Addresses.{ordinaryPage}
-use Rattle.board.specs.Pages.{namesPage, homeOf}
+use Rattle.pages.specs.Pages.{namesPage, homeOf}
 use Rattle.board.specs.declared.Shape.{Shape}
 use Rattle.board.specs.declared.Home.{Home}
 use Rattle.board.specs.declared.Home.the-variants.{Line}
-use Rattle.lines.specs.Bytes.{lineOf}
+use Rattle.line_bytes.specs.Bytes.{lineOf}
 use Rattle.lines.specs.Records.{lineAt}
-use Rattle.lines.specs.Stores.{Store, holdsAt}
-use Rattle.lines.specs.Reach.{current}
+use Rattle.stores.specs.Stores.{Store}
+use Rattle.lines.specs.Holds.{holdsAt}
+use Rattle.stores.specs.Stores.{current}
 use Rattle.machine.specs.Boards.{ways, Board, fitsBoard, Fresh}
 
 -- the lengths agree and the limits hold

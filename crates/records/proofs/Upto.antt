@@ -8,9 +8,9 @@ use native.Mathlib.Omega.{arith}
 use lib.ListN.{length, getD, set}
 use Rattle.board.specs.declared.Shape.{Shape}
 use Rattle.lines.specs.declared.Line.{Line}
-use Rattle.lines.specs.declared.Visit.{Visit}
-use Rattle.records.specs.Lent.{turnsWhen, lineVisited, linesVisited, lineFlushed, flushedMemory}
-use Rattle.records.proofs.Single.{length-flushed}
+use Rattle.visits.specs.declared.Visit.{Visit}
+use Rattle.record_steps.specs.Lent.{turnsWhen, lineVisited, linesVisited, lineFlushed, flushedMemory}
+use Rattle.record_steps.proofs.Single.{length-flushed}
 
 pub less-or-same : (i n : ℕ) → i ≤ n → (i < n) ⊎ (i ≡ n)
 less-or-same zero zero l = inr refl

@@ -28,8 +28,8 @@ use Rattle.board.proofs.Shape.Laws as S′
 use Rattle.lines.specs.declared.Line.{Line}
 use Rattle.lines.proofs.Line as L
 use Rattle.lines.proofs.Line.Laws as L′
-use Rattle.records.specs.Lent.{numberOf}
-use Rattle.records.proofs.number_of as number
+use Rattle.record_steps.specs.Lent.{numberOf}
+use Rattle.record_steps.proofs.number_of as number
 
 abbrev pub word : Ty
 word = tyInt w64

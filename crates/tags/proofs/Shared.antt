@@ -31,15 +31,15 @@ use denote.Triple.Walked.{Stay}
 use Rattle.board.specs.declared.Answer.{Answer}
 use Rattle.board.specs.declared.Pending.{Pending}
 use Rattle.board.specs.declared.Shape.{Shape}
-use Rattle.calls.specs.declared.Tagged.{Tagged}
+use Rattle.tag_calls.specs.declared.Tagged.{Tagged}
 use Rattle.board.proofs.Answer as N
 use Rattle.board.proofs.Answer.Laws as N′
 use Rattle.board.proofs.Pending as T
 use Rattle.board.proofs.Pending.Laws as T′
 use Rattle.board.proofs.Shape as S
 use Rattle.board.proofs.Shape.Laws as S′
-use Rattle.calls.proofs.Tagged as G
-use Rattle.calls.proofs.Tagged.Laws as G′
+use Rattle.tag_calls.proofs.Tagged as G
+use Rattle.tag_calls.proofs.Tagged.Laws as G′
 
 abbrev pub five : Fml → Fml → Fml → Fml → Fml → Fml → Fml
 five a b c d e z = fsep a (fsep b (fsep c (fsep d (fsep e z))))

@@ -7,7 +7,7 @@ ghost use Rattle.machine.specs.Calls.{tag as tagCall, loadAndMap as loadAndMapC
 use board::Answer;
 use board::Pending;
 use board::Shape;
-use calls::Tagged;
+use tag_calls::Tagged;
 
 // Forgets the pending name.
 pub fn drop_tag(
@@ -21,7 +21,7 @@ pub fn drop_tag(
 ) -> Answer
     ensures { λ r. ⌜ outcome r (boardOf (now (slots .entry)) (now (words .entry)) (now (records .entry)) (now (cache .entry)) (now (memory .entry)) (now (pending .exit))) ≡ dropTagCall s (boardOf (now (slots .entry)) (now (words .entry)) (now (records .entry)) (now (cache .entry)) (now (memory .entry)) (now (pending .entry))) ⌝ }
 {
-    let t = calls::drop_tag(s, slots, words, records, cache, memory, *pending);
+    let t = tag_calls::drop_tag(s, slots, words, records, cache, memory, *pending);
     *pending = t.tag;
     t.answer
 }
@@ -59,7 +59,7 @@ pub fn tag(
 ) -> Answer
     ensures { λ r. ⌜ outcome r (boardOf (now (slots .entry)) (now (words .entry)) (now (records .entry)) (now (cache .entry)) (now (memory .entry)) (now (pending .exit))) ≡ tagCall s (boardOf (now (slots .entry)) (now (words .entry)) (now (records .entry)) (now (cache .entry)) (now (memory .entry)) (now (pending .entry))) name ⌝ }
 {
-    let t = calls::tag(s, slots, words, records, cache, memory, *pending, name);
+    let t = tag_calls::tag(s, slots, words, records, cache, memory, *pending, name);
     *pending = t.tag;
     t.answer
 }
@@ -98,7 +98,7 @@ pub fn load_and_map(
 ) -> Answer
     ensures { λ r. ⌜ outcome r (boardOf (now (slots .entry)) (now (words .entry)) (now (records .exit)) (now (cache .exit)) (now (memory .exit)) (now (pending .exit))) ≡ loadAndMapCall s (boardOf (now (slots .entry)) (now (words .entry)) (now (records .entry)) (now (cache .entry)) (now (memory .entry)) (now (pending .entry))) line ⌝ }
 {
-    let t = calls::load_and_map(s, slots, words, records, cache, memory, *pending, line);
+    let t = tag_calls::load_and_map(s, slots, words, records, cache, memory, *pending, line);
     *pending = t.tag;
     t.answer
 }

@@ -1,5 +1,5 @@
 -- `holder_of` tests the one record where a name may stand.
-use Rattle.lines.proofs.Stores.{holder-at, holder-none, holder-other}
+use Rattle.lines.proofs.Holders.{holder-at, holder-none, holder-other}
 use borrow.Author.Needs.{needs}
 use Rattle.lines.proofs.holder_of.Statement.{statement}
 use Rattle.lines.proofs.holder_of.Tie as tie

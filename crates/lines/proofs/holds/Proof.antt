@@ -1,5 +1,5 @@
 -- `holds` tests the place by `place_of`.
-use Rattle.lines.proofs.Stores.{holds-by}
+use Rattle.lines.proofs.Holders.{holds-by}
 use borrow.Author.Needs.{needs}
 use Rattle.lines.proofs.holds.Statement.{statement}
 use Rattle.lines.proofs.holds.Tie as tie

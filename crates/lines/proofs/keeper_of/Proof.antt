@@ -2,8 +2,8 @@
 use Prim.Native.Nat.{_-_}
 use mathlib.Core.Path.{_≡_, _∙_, sym}
 use native.Mathlib.Nat.{sub-zero}
-use Rattle.lines.specs.Reach.{keeperFrom, keeperOf}
-use Rattle.lines.proofs.Reach.{keeper-here, keeper-more, keeper-end}
+use Rattle.lines.specs.Holds.{keeperFrom, keeperOf}
+use Rattle.lines.proofs.Holders.{keeper-here, keeper-more, keeper-end}
 use borrow.Author.Needs.{needs}
 use Rattle.lines.proofs.keeper_of.Statement.{statement}
 use Rattle.lines.proofs.keeper_of.Tie as tie

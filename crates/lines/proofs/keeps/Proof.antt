@@ -1,5 +1,5 @@
 -- `keeps` is a held line of this physical line.
-use Rattle.lines.proofs.Reach.{keeps-by}
+use Rattle.lines.proofs.Holders.{keeps-by}
 use borrow.Author.Needs.{needs}
 use Rattle.lines.proofs.keeps.Statement.{statement}
 use Rattle.lines.proofs.keeps.Tie as tie

@@ -56,26 +56,26 @@ use Rattle.board.specs.declared.Shape.{Shape}
 use Rattle.board.proofs.Shape as S
 use Rattle.board.proofs.Shape.Laws as S′
 use Rattle.lines.specs.declared.Line.{Line}
-use Rattle.lines.specs.declared.Visit.the-variants.{Flush}
+use Rattle.visits.specs.declared.Visit.the-variants.{Flush}
 use Rattle.lines.proofs.Line as L
 use Rattle.lines.proofs.Line.Laws as L′
-use Rattle.records.specs.Lent.{Placed, allFit, turnsWhen, numberOf, lineVisited, lineFlushed, flushedLines, flushedBytes}
-use Rattle.records.proofs.Fits.{turns-within, turn-fits, number-all, placed}
+use Rattle.record_steps.specs.Lent.{Placed, allFit, turnsWhen, numberOf, lineVisited, lineFlushed, flushedLines, flushedBytes}
+use Rattle.record_steps.proofs.Fits.{turns-within, turn-fits, number-all, placed}
 use Rattle.records.proofs.Again.{LentAgain, lends-again, comes-back}
 use Rattle.records.proofs.Upto.{less-or-same, visitedUpto, upto-length, upto-none, upto-set, upto-turns, memoryUpto, memory-length, memory-none, memory-more, memory-turns}
 use Rattle.records.proofs.Values.{word, vals, svals, none, told, word-typed, number-typed, Number, number-said, to-number, number-goes}
-use Rattle.records.proofs.flush_turns as turns
-use Rattle.records.proofs.flush_turns.Symbol as turns-def
-use Rattle.records.proofs.flush_turns.Symbol.{name as #flush-turns}
-use Rattle.records.proofs.flush_turns.Met as turns-thm
-use Rattle.records.proofs.flush_line as single
-use Rattle.records.proofs.flush_line.Symbol as single-def
-use Rattle.records.proofs.flush_line.Symbol.{name as #flush-line}
-use Rattle.records.proofs.flush_line.Met as single-thm
-use Rattle.records.proofs.number_of as number
-use Rattle.records.proofs.number_of.Symbol as number-def
-use Rattle.records.proofs.number_of.Symbol.{name as #number-of}
-use Rattle.records.proofs.number_of.Met as number-thm
+use Rattle.record_steps.proofs.flush_turns as turns
+use Rattle.record_steps.proofs.flush_turns.Symbol as turns-def
+use Rattle.record_steps.proofs.flush_turns.Symbol.{name as #flush-turns}
+use Rattle.record_steps.proofs.flush_turns.Met as turns-thm
+use Rattle.record_steps.proofs.flush_line as single
+use Rattle.record_steps.proofs.flush_line.Symbol as single-def
+use Rattle.record_steps.proofs.flush_line.Symbol.{name as #flush-line}
+use Rattle.record_steps.proofs.flush_line.Met as single-thm
+use Rattle.record_steps.proofs.number_of as number
+use Rattle.record_steps.proofs.number_of.Symbol as number-def
+use Rattle.record_steps.proofs.number_of.Symbol.{name as #number-of}
+use Rattle.record_steps.proofs.number_of.Met as number-thm
 use Rattle.records.proofs.flush_lines.Key.{name as #flush-lines}
 use Rattle.records.proofs.flush_lines as fun
 use Rattle.records.proofs.flush_lines.Statement as stated
@@ -412,6 +412,6 @@ flush-lines-spec 𝓤 H 𝓜 𝓖 𝓡 =
     entered 𝓤 H (tripleOf 𝓤 H (𝓖 .A) fun.signature (fun.spec 𝓤 H (𝓖 .A) (𝓜 .mem) (𝓡 .run)))
     (tables 𝓤 H 𝓜 𝓡 code.env .C) (tables 𝓤 H 𝓜 𝓡 code.env .Λ) #flush-lines code.function (code.unfolded 𝓤 H 𝓜 𝓡)
     (fun-meets 𝓤 H (𝓖 .A) (givenOf 𝓤 H 𝓜 𝓖) (𝓜 .mem) (𝓡 .run) (tablesOf 𝓤 H 𝓜 (tables 𝓤 H 𝓜 𝓡 code.env))
-    (cited 𝓤 H (Turns 𝓤 H (𝓖 .A) (𝓜 .mem) (𝓡 .run)) 𝓜 𝓡 code.env #flush-turns turns-def.routine code.calls-records·flush-turns (turns-thm.met 𝓤 H 𝓜 𝓖 𝓡))
-    (cited 𝓤 H (Single 𝓤 H (𝓖 .A) (𝓜 .mem) (𝓡 .run)) 𝓜 𝓡 code.env #flush-line single-def.routine code.calls-records·flush-line (single-thm.met 𝓤 H 𝓜 𝓖 𝓡))
-    (cited 𝓤 H (Number 𝓤 H (𝓖 .A) (𝓜 .mem) (𝓡 .run)) 𝓜 𝓡 code.env #number-of number-def.routine code.calls-records·number-of (number-thm.met 𝓤 H 𝓜 𝓖 𝓡)))
+    (cited 𝓤 H (Turns 𝓤 H (𝓖 .A) (𝓜 .mem) (𝓡 .run)) 𝓜 𝓡 code.env #flush-turns turns-def.routine code.calls-record-steps·flush-turns (turns-thm.met 𝓤 H 𝓜 𝓖 𝓡))
+    (cited 𝓤 H (Single 𝓤 H (𝓖 .A) (𝓜 .mem) (𝓡 .run)) 𝓜 𝓡 code.env #flush-line single-def.routine code.calls-record-steps·flush-line (single-thm.met 𝓤 H 𝓜 𝓖 𝓡))
+    (cited 𝓤 H (Number 𝓤 H (𝓖 .A) (𝓜 .mem) (𝓡 .run)) 𝓜 𝓡 code.env #number-of number-def.routine code.calls-record-steps·number-of (number-thm.met 𝓤 H 𝓜 𝓖 𝓡)))

@@ -48,7 +48,7 @@ use Rattle.board.proofs.Shape as S
 use Rattle.board.proofs.Shape.Laws as S′
 use Rattle.lines.specs.declared.Line.{Line}
 use Rattle.lines.proofs.Line as L
-use Rattle.records.specs.Lent.{allFit, numberOf, flushedLines, flushedBytes}
+use Rattle.record_steps.specs.Lent.{allFit, numberOf, flushedLines, flushedBytes}
 use Rattle.records.proofs.Values.{svals, number-typed}
 use Rattle.records.proofs.Again.{LentAgain, lends-again, comes-back}
 use Rattle.records.proofs.Arrays.{Ar, arr, avals, atells, room-two, amakes, atyped, lies-in, lies-out}

@@ -49,7 +49,7 @@ use Rattle.board.proofs.Shape as S
 use Rattle.board.proofs.Shape.Laws as S′
 use Rattle.lines.specs.declared.Line.{Line}
 use Rattle.lines.proofs.Line as L
-use Rattle.records.specs.Lent.{linesFit, numberOf, protectedLines}
+use Rattle.record_steps.specs.Lent.{linesFit, numberOf, protectedLines}
 use Rattle.records.proofs.Values.{svals, number-typed}
 use Rattle.records.proofs.Arrays.{Ar, arr, avals, atells, room-two, amakes, atyped, lies-in, lies-out}
 use Rattle.records.proofs.protect_lines as callee

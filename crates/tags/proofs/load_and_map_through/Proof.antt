@@ -50,8 +50,8 @@ use Rattle.board.proofs.Pending as T
 use Rattle.board.proofs.Pending.Laws as T′
 use Rattle.board.proofs.Shape as S
 use Rattle.board.proofs.Shape.Laws as S′
-use Rattle.calls.proofs.Tagged as G
-use Rattle.calls.proofs.Tagged.Laws as G′
+use Rattle.tag_calls.proofs.Tagged as G
+use Rattle.tag_calls.proofs.Tagged.Laws as G′
 use Rattle.tags.proofs.Shared.{five, takes, puts, begins-by-value, left-to, vals, gvals, avals, svals, buffer, both, made, told-answer, lies-in, lies-out}
 use Rattle.tags.proofs.load_and_map as callee
 use Rattle.tags.proofs.load_and_map.Symbol as callee-def

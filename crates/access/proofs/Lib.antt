@@ -1,6 +1,0 @@
-pub mod Shapes
-pub mod Checks
-pub mod Lines
-pub mod Users
-pub mod Plans
-pub mod Supervisors

@@ -1,0 +1,121 @@
+-- The alignment of an access, and an access to a line, return by return.
+use Prim.Native.Nat.{ℕ, _+_, _*_, _/_, _%_, _<_, _≤_}
+use mathlib.Core.Path.{_≡_, _∙_, sym, ap}
+use mathlib.Core.Bool.{Bool, true, false, not, _&&_}
+use mathlib.Core.List.{List, [], _∷_}
+use native.Mathlib.Nat.{div-one}
+use native.Mathlib.Omega.{arith}
+use lib.ListN.{length}
+use Rattle.address.specs.Addresses.{nameOf}
+use Rattle.address.specs.declared.Global.{Global}
+use Rattle.address.specs.declared.Physical.{Physical}
+use Rattle.board.specs.Answers.{answer}
+use Rattle.board.specs.declared.Answer.{Answer}
+use Rattle.board.specs.declared.Shape.{Shape}
+use Rattle.line_bytes.specs.Bytes.{number, stored}
+use Rattle.stores.specs.Premises.{Sized}
+use Rattle.reach.specs.Reach.{wayOf, unreached, mayWrite}
+use Rattle.stores.specs.Stores.{Store, store, Performed, performed, performedAt, inserted}
+use Rattle.stores.specs.declared.Access.{Access}
+use Rattle.reach.specs.declared.Way.{Way}
+use Rattle.reach.specs.declared.Way.the-variants.{Held, InMemory, Missing}
+use Rattle.lines.proofs.OneBit.{one-pos}
+use Rattle.reach.proofs.Reach.{way-held}
+use Rattle.machine.specs.Refusals.{row, byTable, alignedTo}
+use Rattle.machine.specs.Accesses.{Reached, reached, stopped, reachedBy, performedOn, accessedBy, accessed, memoryAccess}
+use Rattle.line_access.specs.LineAccess.{lineAccess}
+use lib.Dec.{eqb}
+use borrow.Author.Tests.{ne-eqb}
+
+-- alignment, width by width
+module _ (width at : ℕ) where
+  pub aligned-one : width ≡ 1 → true ≡ alignedTo width at
+  unfolding alignedTo
+  aligned-one e =
+      let z : at % 1 ≡ 0 = omega arith in
+      rw (e, z)
+
+  pub aligned-two : width ≡ 2 → eqb (at % 2) 0 ≡ alignedTo width at
+  unfolding alignedTo
+  aligned-two e = rw e
+
+  pub aligned-four : width ≡ 4 → eqb (at % 4) 0 ≡ alignedTo width at
+  unfolding alignedTo
+  aligned-four e = rw e
+
+  pub aligned-none : (width ≡ 1 → ⊥) → (width ≡ 2 → ⊥) → (width ≡ 4 → ⊥) → false ≡ alignedTo width at
+  unfolding alignedTo
+  aligned-none n m l = rw (ne-eqb _ _ n, ne-eqb _ _ m, ne-eqb _ _ l)
+
+pub performed-on : (r c m : List ℕ) (i offset : ℕ) (a : Access) (mark v : ℕ) (r₁ c₁ : List ℕ) → performed v r₁ c₁ ≡ performedAt i offset a r c
+    → reached (answer 0 v mark) r₁ c₁ m ≡ performedOn i offset a mark (store r c m)
+unfolding performedOn
+performed-on r c m i offset a mark v r₁ c₁ e = ap (λ (p : Performed). reachedBy p m mark) e
+
+-- past the cache
+module _ (r c m : List ℕ) (p : Physical) (a : Access) where
+  pub memory-stored : (x : Answer) (m₁ : List ℕ) → a .store ≡ true → m₁ ≡ stored m (p .0) (a .width) (a .value) → x ≡ answer 0 0 0
+      → reached x r c m₁ ≡ memoryAccess p a (store r c m)
+  unfolding memoryAccess
+  memory-stored x m₁ e f g = rw (e, f, g)
+
+  pub memory-loaded : (v : ℕ) → a .store ≡ false → v ≡ number m (p .0) (a .width) → reached (answer 0 v 0) r c m ≡ memoryAccess p a (store r c m)
+  unfolding memoryAccess
+  memory-loaded v e f = rw (e, f)
+
+-- an access to a line by the way to it
+unfoldable lineBy : Shape → ℕ → ℕ → Bool → Access → Store → Way → Reached
+lineBy s name offset user a b w =
+    byTable (stopped b) (row 8 (unreached w) ∷ row 9 (user && (a .store && not (mayWrite w))) ∷ []) (accessedBy s name offset a b w)
+
+-- the record of a held line is one of the records
+module _ (s : Shape) (words r c m : List ℕ) (name i : ℕ) (write : Bool) (w : Way) (e : w ≡ wayOf 1 s words r name) (k : w ≡ Held i write)
+    (z : Sized s r c m) where
+  held-inside : i < s .lines
+  held-inside = way-held s words r name i write w e k (one-pos (s .lines) (omega arith) (z .one))
+
+  pub held-record : 2 * i + 2 ≤ length r
+  held-record = omega (arith, held-inside)
+
+  pub held-bytes : (g : Global) (width : ℕ) → g .0 % 16 + width ≤ 16 → 16 * i + g .0 % 16 + width ≤ length c
+  held-bytes g width h = omega (arith, held-inside)
+
+module _ (s : Shape) (words r c m : List ℕ) (g : Global) (user : Bool) (a : Access) (name : ℕ) (w : Way)
+    (n : name ≡ nameOf g) (e : w ≡ wayOf 1 s words r name) where
+  line-on : lineBy s name (g .0 % 16) user a (store r c m) w ≡ lineAccess s words g user a (store r c m)
+  unfolding lineBy lineAccess accessed
+  line-on = rw (e, n)
+
+  by : Way → Reached
+  by = lineBy s name (g .0 % 16) user a (store r c m)
+
+  pub line-missing : (x : Answer) → w ≡ Missing → x ≡ answer 8 0 0 → reached x r c m ≡ lineAccess s words g user a (store r c m)
+  unfolding lineBy by byTable unreached
+  line-missing x k f = rw f (ap by (sym k) ∙ line-on)
+
+  module _ (i : ℕ) (write : Bool) (k : w ≡ Held i write) where
+    pub held-reads : (x : Answer) → (user && (a .store && not write)) ≡ true → x ≡ answer 9 0 0
+        → reached x r c m ≡ lineAccess s words g user a (store r c m)
+    unfolding lineBy by byTable unreached mayWrite
+    held-reads x t f = rw f (simp t at (ap by (sym k)) ∙ line-on)
+
+    pub held-performed : (x : Answer) (r₁ c₁ : List ℕ) → (user && (a .store && not write)) ≡ false
+        → reached x r₁ c₁ m ≡ performedOn i (g .0 % 16) a 1 (store r c m)
+        → reached x r₁ c₁ m ≡ lineAccess s words g user a (store r c m)
+    unfolding lineBy by byTable unreached mayWrite accessedBy
+    held-performed x r₁ c₁ t d = d ∙ simp t at (ap by (sym k)) ∙ line-on
+
+  module _ (line : ℕ) (write : Bool) (k : w ≡ InMemory line write) where
+    pub memory-reads : (x : Answer) → (user && (a .store && not write)) ≡ true → x ≡ answer 9 0 0
+        → reached x r c m ≡ lineAccess s words g user a (store r c m)
+    unfolding lineBy by byTable unreached mayWrite
+    memory-reads x t f = rw f (simp t at (ap by (sym k)) ∙ line-on)
+
+    pub memory-inserted : (x : Answer) (place : ℕ) (r₁ c₁ m₁ r₂ c₂ : List ℕ) → (user && (a .store && not write)) ≡ false → place ≡ name % s .lines
+        → store r₁ c₁ m₁ ≡ inserted 1 s place name line write (store r c m)
+        → reached x r₂ c₂ m₁ ≡ performedOn place (g .0 % 16) a 0 (store r₁ c₁ m₁)
+        → reached x r₂ c₂ m₁ ≡ lineAccess s words g user a (store r c m)
+    unfolding lineBy by byTable unreached mayWrite accessedBy
+    memory-inserted x place r₁ c₁ m₁ r₂ c₂ t p f d =
+        let q : place ≡ name % (s .lines / 1) = p ∙ ap (λ (l : ℕ). name % l) (sym (div-one (s .lines))) in
+        d ∙ ap (performedOn place (g .0 % 16) a 0) f ∙ rw q (simp t at (ap by (sym k)) ∙ line-on)

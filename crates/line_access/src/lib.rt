@@ -1,0 +1,116 @@
+ghost use mathlib.Core.Path.{_≡_};
+ghost use Prim.Native.Nat.{_+_, _*_, _%_, _≤_};
+ghost use lib.ListN.{length};
+ghost use Rattle.address.specs.Layout.{lineBytes};
+ghost use Rattle.line_bytes.specs.Premises.{Width};
+ghost use Rattle.stores.specs.Premises.{Sized};
+ghost use Rattle.stores.specs.Stores.{store as storeOf};
+ghost use Rattle.machine.specs.Refusals.{alignedTo};
+ghost use Rattle.machine.specs.Accesses.{reached, performedOn, memoryAccess};
+ghost use Rattle.line_access.specs.LineAccess.{lineAccess};
+use address::Global;
+use address::LINE_BYTES;
+use address::Physical;
+use board::Answer;
+use board::Shape;
+use board::numbered;
+use reach::Way;
+use stores::Access;
+
+// The width is 1, 2 or 4, and the address a multiple of it.
+pub fn aligned(width: u32, at: u64) -> bool
+    ensures { λ r. ⌜ r ≡ alignedTo width at ⌝ }
+{
+    if width == 1 {
+        return true;
+    }
+    if width == 2 {
+        return at % 2 == 0;
+    }
+    if width == 4 {
+        return at % 4 == 0;
+    }
+    false
+}
+
+// A load or a store on the line of record `i`, which holds it now.
+fn perform_on(
+    records: &mut [u64],
+    cache: &mut [u8],
+    memory: &[u8],
+    i: usize,
+    offset: usize,
+    a: Access,
+    mark: u32,
+) -> Answer
+    requires { ⌜ (2 * i + 2 ≤ length (now records)) × (16 * i + offset + a .width ≤ length (now cache)) × Width (a .width) ⌝ }
+    ensures { λ r. ⌜ reached r (now (records .exit)) (now (cache .exit)) (now (memory .entry)) ≡ performedOn i offset a mark (storeOf (now (records .entry)) (now (cache .entry)) (now (memory .entry))) ⌝ }
+{
+    let value = stores::perform(records, cache, i, offset, a);
+    Answer {
+        number: 0,
+        value: value,
+        mark: mark,
+    }
+}
+
+// An access to a line, with numbers 8 and 9.
+pub fn line_access(
+    s: Shape,
+    words: &[u64],
+    records: &mut [u64],
+    cache: &mut [u8],
+    memory: &mut [u8],
+    g: Global,
+    user: bool,
+    a: Access,
+) -> Answer
+    requires { ⌜ Sized s (now records) (now cache) (now memory) × (length (now words) ≡ s .frames) × Width (a .width) × (g .0 % lineBytes + a .width ≤ lineBytes) ⌝ }
+    ensures { λ r. ⌜ reached r (now (records .exit)) (now (cache .exit)) (now (memory .exit)) ≡ lineAccess s (now (words .entry)) g user a (storeOf (now (records .entry)) (now (cache .entry)) (now (memory .entry))) ⌝ }
+{
+    let name = g.name();
+    let offset = (g.0 % LINE_BYTES) as usize;
+    match reach::way_to(s, words, records, name) {
+        Way::Missing => numbered(8),
+        Way::Held(i, write) => {
+            if user & (a.store & !write) {
+                return numbered(9);
+            }
+            perform_on(records, cache, memory, i, offset, a, 1)
+        }
+        Way::InMemory(line, write) => {
+            if user & (a.store & !write) {
+                return numbered(9);
+            }
+            let lines = s.lines;
+            let place = lines::place_of(lines, name);
+            stores::insert(s, records, cache, memory, place, name, line, write);
+            perform_on(records, cache, memory, place, offset, a, 0)
+        }
+    }
+}
+
+// A load or a store in memory, past the cache.
+pub fn memory_access(
+    records: &[u64],
+    cache: &[u8],
+    memory: &mut [u8],
+    p: Physical,
+    a: Access,
+) -> Answer
+    requires { ⌜ (p .0 + a .width ≤ length (now memory)) × Width (a .width) ⌝ }
+    ensures { λ r. ⌜ reached r (now (records .entry)) (now (cache .entry)) (now (memory .exit)) ≡ memoryAccess p a (storeOf (now (records .entry)) (now (cache .entry)) (now (memory .entry))) ⌝ }
+{
+    let at = p.0 as usize;
+    let width = a.width;
+    if a.store {
+        line_bytes::store_bytes(memory, at, width, a.value);
+        return numbered(0);
+    }
+    let value = line_bytes::load_bytes(memory, at, width);
+    Answer {
+        number: 0,
+        value: value,
+        mark: 0,
+    }
+}

@@ -1,0 +1,9 @@
+-- What the code inside asks of its callers. No call's definition needs this: a public call asks nothing.
+use Prim.Native.Nat.{ℕ, _≤_}
+use mathlib.Core.Path.{_≡_}
+
+-- a width that an access may have: 1, 2 or 4
+pub record Width (w : ℕ) : Type 0 where
+  pub low : 1 ≤ w
+  pub high : w ≤ 4
+  pub not-three : w ≡ 3 → ⊥

@@ -1,0 +1,122 @@
+ghost use mathlib.Core.Path.{_≡_};
+ghost use Prim.Native.Nat.{_*_, _<_};
+ghost use Rattle.address.specs.Layout.{pageLines};
+ghost use Rattle.board.specs.declared.Pending.{Pending};
+ghost use Rattle.stores.specs.Stores.{store as storeOf, current};
+ghost use Rattle.stores.specs.Premises.{Sized};
+ghost use Rattle.machine.specs.Boards.{ways, board as boardOf, outcome};
+ghost use Rattle.machine.specs.Calls.{flushAll as flushCall};
+ghost use Rattle.machine.specs.Looks.{lookNumber as lookNumberOf, look as lookOf};
+use board::Answer;
+use board::Found;
+use board::LINE_BYTES;
+use board::PAGE_LINES;
+use board::Shape;
+use board::numbered;
+use visits::Visit;
+
+// Writes back every changed line and drops all.
+pub fn flush_all(
+    s: Shape,
+    slots: &[u32],
+    words: &[u64],
+    records: &mut [u64],
+    cache: &[u8],
+    memory: &mut [u8],
+) -> Answer
+    ensures { λ r. ⌜ ((tag : Pending) → outcome r (boardOf (now (slots .entry)) (now (words .entry)) (now (records .exit)) (now (cache .entry)) (now (memory .exit)) tag) ≡ flushCall s (boardOf (now (slots .entry)) (now (words .entry)) (now (records .entry)) (now (cache .entry)) (now (memory .entry)) tag)) ⌝ }
+{
+    if board::fits(
+        s,
+        slots.len(),
+        words.len(),
+        records.len(),
+        cache.len(),
+        memory.len(),
+    ) {
+        visits::visit_all(s, records, cache, memory, Visit::Flush);
+        numbered(0)
+    } else {
+        numbered(1)
+    }
+}
+
+// The number that look gives.
+pub fn look_number(
+    s: Shape,
+    slots: &[u32],
+    words: &[u64],
+    records: &[u64],
+    cache: &[u8],
+    memory: &[u8],
+    line: usize,
+) -> u32
+    ensures { λ r. ⌜ ((tag : Pending) → r ≡ lookNumberOf s (boardOf (now (slots .entry)) (now (words .entry)) (now (records .entry)) (now (cache .entry)) (now (memory .entry)) tag) line) ⌝ }
+{
+    if board::fits(
+        s,
+        slots.len(),
+        words.len(),
+        records.len(),
+        cache.len(),
+        memory.len(),
+    ) {
+        if line < PAGE_LINES * s.frames {
+            return 0;
+        }
+        2
+    } else {
+        1
+    }
+}
+
+// The sixteen bytes of a physical line where they stand now: a part of the cache bytes or of memory.
+fn current_part<'a>(
+    s: Shape,
+    records: &[u64],
+    cache: &'a [u8],
+    memory: &'a [u8],
+    line: usize,
+) -> &'a [u8]
+    requires { ⌜ Sized s (now records) (now cache) (now memory) × (line < pageLines * s .frames) ⌝ }
+    ensures { λ r. ⌜ now r ≡ current ways s (storeOf (now (records .entry)) (now (cache .entry)) (now (memory .entry))) line ⌝ }
+{
+    match lines::keeper_of(s, records, line) {
+        Found::At(i) => {
+            let a = LINE_BYTES * i;
+            &cache[a..a + LINE_BYTES]
+        }
+        Found::Nothing => {
+            let a = LINE_BYTES * line;
+            &memory[a..a + LINE_BYTES]
+        }
+    }
+}
+
+// The current sixteen bytes of a physical line, as a part of the caller's own buffers; refused, an empty part.
+pub fn look<'a>(
+    s: Shape,
+    slots: &[u32],
+    words: &[u64],
+    records: &[u64],
+    cache: &'a [u8],
+    memory: &'a [u8],
+    line: usize,
+) -> &'a [u8]
+    ensures { λ r. ⌜ ((tag : Pending) → now r ≡ lookOf s (boardOf (now (slots .entry)) (now (words .entry)) (now (records .entry)) (now (cache .entry)) (now (memory .entry)) tag) line) ⌝ }
+{
+    if board::fits(
+        s,
+        slots.len(),
+        words.len(),
+        records.len(),
+        cache.len(),
+        memory.len(),
+    ) {
+        if line < PAGE_LINES * s.frames {
+            return current_part(s, records, cache, memory, line);
+        }
+        return &cache[0..0];
+    }
+    &cache[0..0]
+}

@@ -1,0 +1,91 @@
+ghost use mathlib.Core.Path.{_≡_};
+ghost use Prim.Native.Nat.{_<_, _^_};
+ghost use lib.ListN.{length};
+ghost use Rattle.board.specs.declared.Pending.{Pending};
+ghost use Rattle.stores.specs.Premises.{Sized};
+ghost use Rattle.machine.specs.Boards.{board as boardOf, outcome, pages};
+ghost use Rattle.machine.specs.Refusals.{isFrame};
+ghost use Rattle.machine.specs.Calls.{mapped, mapPage as mapCall};
+ghost use Rattle.map_call.specs.Numbers.{mapNumber};
+use board::Answer;
+use board::Found;
+use board::Shape;
+use board::numbered;
+use visits::Visit;
+
+// A frame from U up and below F.
+fn is_frame(s: Shape, frame: usize) -> bool
+    ensures { λ r. ⌜ r ≡ isFrame s frame ⌝ }
+{
+    (s.uncached <= frame) & (frame < s.frames)
+}
+
+// Numbers 2, 10 and 11 of map, or 0.
+fn map_number(s: Shape, words: &[u64], page: u64, frame: usize) -> u32
+    requires { ⌜ length (now words) ≡ s .frames ⌝ }
+    ensures { λ r. ⌜ r ≡ mapNumber s (now (words .entry)) page frame ⌝ }
+{
+    let p = address::ordinary_page(page);
+    if p & is_frame(s, frame) {
+        if words[frame] != 0 {
+            return 10;
+        }
+        return match pages::mapped_to(s, words, page) {
+            Found::At(_) => 11,
+            Found::Nothing => 0,
+        };
+    }
+    2
+}
+
+// Drops the lines of the page and of the frame's prefix 1 range, zeroes the frame, sets its word.
+fn map_page(
+    s: Shape,
+    words: &mut [u64],
+    records: &mut [u64],
+    cache: &[u8],
+    memory: &mut [u8],
+    page: u64,
+    frame: usize,
+    write: bool,
+)
+    requires { ⌜ Sized s (now records) (now cache) (now memory) × (length (now words) ≡ s .frames) × (frame < s .frames) × (page < 2 ^ 32) ⌝ }
+    ensures { λ _. ⌜ pages (now (words .exit)) (now (records .exit)) (now (cache .entry)) (now (memory .exit)) ≡ mapped s page frame write (pages (now (words .entry)) (now (records .entry)) (now (cache .entry)) (now (memory .entry))) ⌝ }
+{
+    visits::visit_all(s, records, cache, memory, Visit::Map(page, frame));
+    line_bytes::zero_frame(memory, frame);
+    words[frame] = pages::frame_word(page, write);
+}
+
+// Maps a page to a frame.
+pub fn map(
+    s: Shape,
+    slots: &[u32],
+    words: &mut [u64],
+    records: &mut [u64],
+    cache: &[u8],
+    memory: &mut [u8],
+    page: u64,
+    frame: usize,
+    write: bool,
+) -> Answer
+    ensures { λ r. ⌜ ((tag : Pending) → outcome r (boardOf (now (slots .entry)) (now (words .exit)) (now (records .exit)) (now (cache .entry)) (now (memory .exit)) tag) ≡ mapCall s (boardOf (now (slots .entry)) (now (words .entry)) (now (records .entry)) (now (cache .entry)) (now (memory .entry)) tag) page frame write) ⌝ }
+{
+    if board::fits(
+        s,
+        slots.len(),
+        words.len(),
+        records.len(),
+        cache.len(),
+        memory.len(),
+    ) {
+        let number = map_number(s, words, page, frame);
+        if number == 0 {
+            map_page(s, words, records, cache, memory, page, frame, write);
+            return numbered(0);
+        }
+        numbered(number)
+    } else {
+        numbered(1)
+    }
+}

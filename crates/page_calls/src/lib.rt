@@ -1,0 +1,132 @@
+ghost use mathlib.Core.Path.{_≡_};
+ghost use Prim.Native.Nat.{_<_, _^_};
+ghost use lib.ListN.{length};
+ghost use Rattle.board.specs.declared.Pending.{Pending};
+ghost use Rattle.stores.specs.Premises.{Sized};
+ghost use Rattle.machine.specs.Boards.{board as boardOf, outcome, pages};
+ghost use Rattle.machine.specs.Calls.{unmapped, protected, unmap as unmapCall, protect as protectCall};
+ghost use Rattle.page_calls.specs.Checks.{pageFrame};
+use board::Answer;
+use board::Found;
+use board::Shape;
+use board::numbered;
+use visits::Visit;
+
+// What unmap and protect go on with: the page's frame, if no number stops them.
+pub enum Frame {
+    Stop(u32),
+    On(usize),
+}
+
+// Numbers 2 and 8 of unmap and protect, or the page's frame.
+fn page_frame(s: Shape, words: &[u64], page: u64) -> Frame
+    ensures { λ r. ⌜ r ≡ pageFrame s (now (words .entry)) page ⌝ }
+{
+    if address::ordinary_page(page) {
+        return match pages::mapped_to(s, words, page) {
+            Found::At(f) => Frame::On(f),
+            Found::Nothing => Frame::Stop(8),
+        };
+    }
+    Frame::Stop(2)
+}
+
+// Writes back and drops the page's lines, and frees its frame.
+fn unmap_page(
+    s: Shape,
+    words: &mut [u64],
+    records: &mut [u64],
+    cache: &[u8],
+    memory: &mut [u8],
+    page: u64,
+    frame: usize,
+)
+    requires { ⌜ Sized s (now records) (now cache) (now memory) × (frame < length (now words)) ⌝ }
+    ensures { λ _. ⌜ pages (now (words .exit)) (now (records .exit)) (now (cache .entry)) (now (memory .exit)) ≡ unmapped s page frame (pages (now (words .entry)) (now (records .entry)) (now (cache .entry)) (now (memory .entry))) ⌝ }
+{
+    visits::visit_all(s, records, cache, memory, Visit::Unmap(page));
+    words[frame] = 0;
+}
+
+// Unmaps a page.
+pub fn unmap(
+    s: Shape,
+    slots: &[u32],
+    words: &mut [u64],
+    records: &mut [u64],
+    cache: &[u8],
+    memory: &mut [u8],
+    page: u64,
+) -> Answer
+    ensures { λ r. ⌜ ((tag : Pending) → outcome r (boardOf (now (slots .entry)) (now (words .exit)) (now (records .exit)) (now (cache .entry)) (now (memory .exit)) tag) ≡ unmapCall s (boardOf (now (slots .entry)) (now (words .entry)) (now (records .entry)) (now (cache .entry)) (now (memory .entry)) tag) page) ⌝ }
+{
+    if board::fits(
+        s,
+        slots.len(),
+        words.len(),
+        records.len(),
+        cache.len(),
+        memory.len(),
+    ) {
+        match page_frame(s, words, page) {
+            Frame::Stop(n) => numbered(n),
+            Frame::On(f) => {
+                unmap_page(s, words, records, cache, memory, page, f);
+                numbered(0)
+            }
+        }
+    } else {
+        numbered(1)
+    }
+}
+
+// Gives a page and its lines a permission.
+fn protect_page(
+    s: Shape,
+    words: &mut [u64],
+    records: &mut [u64],
+    cache: &[u8],
+    memory: &mut [u8],
+    page: u64,
+    frame: usize,
+    write: bool,
+)
+    requires { ⌜ Sized s (now records) (now cache) (now memory) × (frame < length (now words)) × (page < 2 ^ 32) ⌝ }
+    ensures { λ _. ⌜ pages (now (words .exit)) (now (records .exit)) (now (cache .entry)) (now (memory .exit)) ≡ protected s page frame write (pages (now (words .entry)) (now (records .entry)) (now (cache .entry)) (now (memory .entry))) ⌝ }
+{
+    visits::visit_all(s, records, cache, memory, Visit::Protect(page, write));
+    words[frame] = pages::frame_word(page, write);
+}
+
+// Changes a page's write bit.
+pub fn protect(
+    s: Shape,
+    slots: &[u32],
+    words: &mut [u64],
+    records: &mut [u64],
+    cache: &[u8],
+    memory: &mut [u8],
+    page: u64,
+    write: bool,
+) -> Answer
+    ensures { λ r. ⌜ ((tag : Pending) → outcome r (boardOf (now (slots .entry)) (now (words .exit)) (now (records .exit)) (now (cache .entry)) (now (memory .exit)) tag) ≡ protectCall s (boardOf (now (slots .entry)) (now (words .entry)) (now (records .entry)) (now (cache .entry)) (now (memory .entry)) tag) page write) ⌝ }
+{
+    if board::fits(
+        s,
+        slots.len(),
+        words.len(),
+        records.len(),
+        cache.len(),
+        memory.len(),
+    ) {
+        match page_frame(s, words, page) {
+            Frame::Stop(n) => numbered(n),
+            Frame::On(f) => {
+                protect_page(s, words, records, cache, memory, page, f, write);
+                numbered(0)
+            }
+        }
+    } else {
+        numbered(1)
+    }
+}

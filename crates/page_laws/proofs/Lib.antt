@@ -1,0 +1,3 @@
+pub mod Maps
+pub mod Remap
+pub mod Reaching

@@ -1,0 +1,123 @@
+ghost use mathlib.Core.Path.{_≡_};
+ghost use mathlib.Core.Bool.{true};
+ghost use Prim.Native.Nat.{ℕ, _+_, _/_, _≤_, _<_, _^_};
+ghost use lib.ListN.{length, getD};
+ghost use Rattle.board.specs.Shapes.{maxFrames};
+ghost use Rattle.pages.specs.Pages.{frameWord, wordWrites, lowestFrame, mappedTo, freeFrame, directHome, homeOf};
+use address::PAGE_NAMES;
+use address::PREFIX_NAMES;
+use address::ordinary_page;
+use board::Found;
+use board::Home;
+use board::PAGE_LINES;
+use board::Shape;
+
+// The word of a frame that a page is mapped to.
+pub fn frame_word(page: u64, write: bool) -> u64
+    requires { ⌜ page < 2 ^ 32 ⌝ }
+    ensures { λ r. ⌜ r ≡ frameWord page write ⌝ }
+{
+    let w = board::bit_of(write);
+    page * 4 + 2 * w + 1
+}
+
+// A frame word's write bit.
+pub fn word_writes(word: u64) -> bool
+    ensures { λ r. ⌜ r ≡ wordWrites word ⌝ }
+{
+    word / 2 % 2 == 1
+}
+
+// There are four words from `f` up, and none of them names the page.
+fn clear_of(words: &[u64], f: usize, page: u64) -> bool
+    requires { ⌜ f ≤ length (now words) ⌝ }
+    ensures { λ r. ⌜ (r ≡ true → (f + 4 ≤ length (now (words .entry))) × ((k : ℕ) → f ≤ k → k < f + 4 → getD (now (words .entry)) k 0 / 4 ≡ page → ⊥)) ⌝ }
+{
+    if words.len() - f < 4 {
+        return false;
+    }
+    let a = words[f] / 4 != page;
+    let b = words[f + 1] / 4 != page;
+    let c = words[f + 2] / 4 != page;
+    let d = words[f + 3] / 4 != page;
+    a & (b & (c & d))
+}
+
+// The lowest frame from `u` up whose word names the page.
+fn lowest_frame(words: &[u64], u: usize, page: u64) -> Found
+    requires { ⌜ page < 2 ^ 32 ⌝ }
+    ensures { λ r. ⌜ r ≡ lowestFrame (now (words .entry)) u page ⌝ }
+{
+    let mut f = u;
+    while f < words.len() {
+        if clear_of(words, f, page) {
+            f += 4;
+        } else {
+            let w = words[f];
+            if w == page * 4 + 1 {
+                return Found::At(f);
+            }
+            if w == page * 4 + 3 {
+                return Found::At(f);
+            }
+            f += 1;
+        }
+    }
+    Found::Nothing
+}
+
+// The frame that a page is mapped to.
+pub fn mapped_to(s: Shape, words: &[u64], page: u64) -> Found
+    ensures { λ r. ⌜ r ≡ mappedTo s (now (words .entry)) page ⌝ }
+{
+    let u = s.uncached;
+    if ordinary_page(page) {
+        return lowest_frame(words, u, page);
+    }
+    Found::Nothing
+}
+
+// A frame from U up whose word is 0.
+pub fn free_frame(s: Shape, words: &[u64], frame: usize) -> bool
+    requires { ⌜ length (now words) ≡ s .frames ⌝ }
+    ensures { λ r. ⌜ r ≡ freeFrame s (now (words .entry)) frame ⌝ }
+{
+    if frame < s.uncached {
+        return false;
+    }
+    if s.frames <= frame {
+        return false;
+    }
+    words[frame] == 0
+}
+
+// The physical line of a name under prefix 1.
+fn direct_home(s: Shape, words: &[u64], name: u64) -> Home
+    requires { ⌜ length (now words) ≡ s .frames ⌝ }
+    ensures { λ r. ⌜ r ≡ directHome s (now (words .entry)) name ⌝ }
+{
+    if name / PREFIX_NAMES == 1 {
+        let line = (name % PREFIX_NAMES) as usize;
+        if free_frame(s, words, line / PAGE_LINES) {
+            return Home::Line(line, true);
+        }
+    }
+    Home::Nowhere
+}
+
+// The physical line that a line name maps to.
+pub fn home_of(s: Shape, words: &[u64], name: u64) -> Home
+    requires { ⌜ (length (now words) ≡ s .frames) × (s .frames ≤ maxFrames) ⌝ }
+    ensures { λ r. ⌜ r ≡ homeOf s (now (words .entry)) name ⌝ }
+{
+    match mapped_to(s, words, name / PAGE_NAMES) {
+        Found::At(f) => {
+            let w = words[f];
+            Home::Line(
+                f * PAGE_LINES + (name % PAGE_NAMES) as usize,
+                word_writes(w),
+            )
+        }
+        Found::Nothing => direct_home(s, words, name),
+    }
+}

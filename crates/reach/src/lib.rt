@@ -1,0 +1,34 @@
+ghost use mathlib.Core.Path.{_≡_};
+ghost use Prim.Native.Nat.{_*_, _≤_};
+ghost use lib.Count.{ones};
+ghost use lib.ListN.{length};
+ghost use Rattle.board.specs.Shapes.{maxFrames};
+ghost use Rattle.reach.specs.Reach.{wayOf};
+use board::Found;
+use board::Home;
+use board::Shape;
+
+// How a line is reached: by the record that holds it, by its physical line, or not at all.
+// The bool is the permission to write.
+pub enum Way {
+    Held(usize, bool),
+    InMemory(usize, bool),
+    Missing,
+}
+
+// How the line of this name is reached.
+pub fn way_to(s: Shape, words: &[u64], records: &[u64], name: u64) -> Way
+    requires { ⌜ (ones (s .lines) ≡ 1) × (s .frames ≤ maxFrames) × (length (now words) ≡ s .frames) × (length (now records) ≡ 2 * s .lines) ⌝ }
+    ensures { λ r. ⌜ r ≡ wayOf 1 s (now (words .entry)) (now (records .entry)) name ⌝ }
+{
+    match lines::holder_of(s, records, name) {
+        Found::At(i) => {
+            let l = lines::line_at(records, i);
+            Way::Held(i, l.write)
+        }
+        Found::Nothing => match pages::home_of(s, words, name) {
+            Home::Line(line, write) => Way::InMemory(line, write),
+            Home::Nowhere => Way::Missing,
+        },
+    }
+}

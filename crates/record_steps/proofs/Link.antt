@@ -1,0 +1,167 @@
+-- The record words, read as lines, become what the list of lines becomes: record by record, and then by the sweep.
+use Prim.Native.Nat.{ℕ, zero, suc, _+_, _*_, _≤_, _<_}
+use mathlib.Core.Path.{_≡_, refl, _∙_, ap}
+use mathlib.Core.Bool.{Bool, true, false, _&&_, cond}
+use mathlib.Core.List.{List, _∷_}
+use native.Mathlib.Omega.{arith}
+use lib.ListN.{length}
+use borrow.Author.Tests.{eq-eqb}
+use Rattle.board.specs.Shapes.{limitsHold}
+use Rattle.board.specs.declared.Shape.{Shape}
+use Rattle.line_bytes.specs.Bytes.{lineOf, withLine}
+use Rattle.lines.specs.Records.{lineAt, putLine, noLine, permittedLine}
+use Rattle.stores.specs.Stores.{Store, store, writtenBack, noted, dropped}
+use Rattle.lines.specs.Holds.{holdsLine, holdsAt}
+use Rattle.visits.specs.Visits.{selects, treated, visited, sweep, visitedAll}
+use Rattle.lines.specs.declared.Line.{Line}
+use Rattle.visits.specs.declared.Visit.{Visit}
+use Rattle.visits.specs.declared.Visit.the-variants.{Map, Unmap, Protect, Flush}
+use Rattle.lines.proofs.Records.{length-put, line-put-same, line-put-other}
+use Rattle.record_steps.specs.Lent.{treatedLine, lineVisited, linesVisited, lineFlushed, flushedMemory, linesFit}
+use Rattle.record_steps.specs.Link.{linesFrom, linesAt, Link}
+
+module _ (s : Shape) where
+  -- ---- one record
+
+  written-records : (i : ℕ) (x : Store) → writtenBack 1 s i x .records ≡ x .records
+  unfolding writtenBack
+  written-records i x = go (holdsAt 1 s (x .records) i && lineAt (x .records) i .changed) _
+    where
+      go : (t : Bool) (m : List ℕ) → cond t (store (x .records) (x .cache) m) x .records ≡ x .records
+      go true m = refl
+      go false m = refl
+
+  written-cache : (i : ℕ) (x : Store) → writtenBack 1 s i x .cache ≡ x .cache
+  unfolding writtenBack
+  written-cache i x = go (holdsAt 1 s (x .records) i && lineAt (x .records) i .changed) _
+    where
+      go : (t : Bool) (m : List ℕ) → cond t (store (x .records) (x .cache) m) x .cache ≡ x .cache
+      go true m = refl
+      go false m = refl
+
+  treated-records : (v : Visit) (i : ℕ) (x : Store) → treated 1 s v i x .records ≡ putLine (x .records) i (treatedLine v (lineAt (x .records) i))
+  unfolding treated dropped noted treatedLine
+  treated-records (Map page frame) i x = refl
+  treated-records (Unmap page) i x = ap (λ (r : List ℕ). putLine r i noLine) (written-records i x)
+  treated-records (Protect page write) i x = refl
+  treated-records Flush i x = ap (λ (r : List ℕ). putLine r i noLine) (written-records i x)
+
+  treated-cache : (v : Visit) (i : ℕ) (x : Store) → treated 1 s v i x .cache ≡ x .cache
+  unfolding treated dropped noted
+  treated-cache (Map page frame) i x = refl
+  treated-cache (Unmap page) i x = written-cache i x
+  treated-cache (Protect page write) i x = refl
+  treated-cache Flush i x = written-cache i x
+
+  module _ (v : Visit) (i : ℕ) (x : Store) where
+    abbrev test : Bool
+    test = holdsLine 1 s i (lineAt (x .records) i) && selects v (lineAt (x .records) i)
+
+    visited-here : 2 * i + 2 ≤ length (x .records) → lineAt (visited 1 s v i x .records) i ≡ lineVisited s v i (lineAt (x .records) i)
+    unfolding visited lineVisited holdsAt
+    visited-here b = go test
+      where
+        go : (t : Bool) → lineAt (cond t (treated 1 s v i x) x .records) i ≡ cond t (treatedLine v (lineAt (x .records) i)) (lineAt (x .records) i)
+        go true = ap (λ (r : List ℕ). lineAt r i) (treated-records v i x) ∙ line-put-same (x .records) i (treatedLine v (lineAt (x .records) i)) b
+        go false = refl
+
+    visited-other : (j : ℕ) → (i ≡ j → ⊥) → lineAt (visited 1 s v i x .records) j ≡ lineAt (x .records) j
+    unfolding visited holdsAt
+    visited-other j n = go test
+      where
+        go : (t : Bool) → lineAt (cond t (treated 1 s v i x) x .records) j ≡ lineAt (x .records) j
+        go true = ap (λ (r : List ℕ). lineAt r j) (treated-records v i x) ∙ line-put-other (x .records) i (treatedLine v (lineAt (x .records) i)) j n
+        go false = refl
+
+    visited-length : length (visited 1 s v i x .records) ≡ length (x .records)
+    unfolding visited holdsAt
+    visited-length = go test
+      where
+        go : (t : Bool) → length (cond t (treated 1 s v i x) x .records) ≡ length (x .records)
+        go true = ap length (treated-records v i x) ∙ length-put (x .records) i (treatedLine v (lineAt (x .records) i))
+        go false = refl
+
+    visited-cache : visited 1 s v i x .cache ≡ x .cache
+    unfolding visited holdsAt
+    visited-cache = go test
+      where
+        go : (t : Bool) → cond t (treated 1 s v i x) x .cache ≡ x .cache
+        go true = treated-cache v i x
+        go false = refl
+
+    -- the lines past a record are as they were
+    visited-past : (j n : ℕ) → i < j → linesFrom (visited 1 s v i x .records) j n ≡ linesFrom (x .records) j n
+    unfolding linesFrom
+    visited-past j zero h = refl
+    visited-past j (suc n) h =
+        ap (λ (l : Line). l ∷ linesFrom (visited 1 s v i x .records) (suc j) n) (visited-other j (λ e. omega (arith, e)))
+        ∙ ap (λ (ls : List Line). lineAt (x .records) j ∷ ls) (visited-past (suc j) n (omega arith))
+
+  flush-step : (i : ℕ) (x : Store) → visited 1 s Flush i x .memory ≡ lineFlushed s i (lineAt (x .records) i) (x .cache) (x .memory)
+  unfolding visited treated dropped noted writtenBack lineFlushed selects holdsAt
+  flush-step i x = go (holdsLine 1 s i (lineAt (x .records) i)) (lineAt (x .records) i .changed) (withLine (x .memory) (lineAt (x .records) i .physical) (lineOf (x .cache) i))
+    where
+      go : (t c : Bool) (m : List ℕ) → cond (t && true) (noted i noLine (cond (t && c) (store (x .records) (x .cache) m) x)) x .memory ≡ cond (t && c) m (x .memory)
+      go true true m = refl
+      go true false m = refl
+      go false c m = refl
+
+  protect-step : (page : ℕ) (write : Bool) (i : ℕ) (x : Store) → visited 1 s (Protect page write) i x .memory ≡ x .memory
+  unfolding visited treated noted holdsAt
+  protect-step page write i x = go (holdsLine 1 s i (lineAt (x .records) i) && selects (Protect page write) (lineAt (x .records) i))
+    where
+      go : (t : Bool) → cond t (noted i (permittedLine (lineAt (x .records) i) write) x) x .memory ≡ x .memory
+      go true = refl
+      go false = refl
+
+  -- ---- all records
+
+  module _ (v : Visit) where
+    sweep-below : (n i j : ℕ) (x : Store) → j < i → lineAt (sweep (visited 1 s v) n i x .records) j ≡ lineAt (x .records) j
+    unfolding sweep
+    sweep-below zero i j x h = refl
+    sweep-below (suc n) i j x h = sweep-below n (suc i) j (visited 1 s v i x) (omega arith) ∙ visited-other v i x j (λ e. omega (arith, e))
+
+    sweep-lines : (n i : ℕ) (x : Store) → 2 * (i + n) ≤ length (x .records)
+        → linesFrom (sweep (visited 1 s v) n i x .records) i n ≡ linesVisited s v i (linesFrom (x .records) i n)
+    unfolding sweep linesFrom linesVisited
+    sweep-lines zero i x h = refl
+    sweep-lines (suc n) i x h =
+        ap (λ (l : Line). l ∷ linesFrom (sweep (visited 1 s v) n (suc i) (visited 1 s v i x) .records) (suc i) n)
+        (sweep-below n (suc i) i (visited 1 s v i x) (omega arith) ∙ visited-here v i x (omega (arith, h)))
+        ∙ ap (λ (ls : List Line). lineVisited s v i (lineAt (x .records) i) ∷ ls)
+        (sweep-lines n (suc i) (visited 1 s v i x) (omega (arith, h, visited-length v i x))
+        ∙ ap (linesVisited s v (suc i)) (visited-past v i x (suc i) n (omega arith)))
+
+  sweep-flush : (n i : ℕ) (x : Store) → sweep (visited 1 s Flush) n i x .memory ≡ flushedMemory s i (linesFrom (x .records) i n) (x .cache) (x .memory)
+  unfolding sweep linesFrom flushedMemory
+  sweep-flush zero i x = refl
+  sweep-flush (suc n) i x =
+      sweep-flush n (suc i) (visited 1 s Flush i x)
+      ∙ ap (λ (ls : List Line). flushedMemory s (suc i) ls (visited 1 s Flush i x .cache) (visited 1 s Flush i x .memory)) (visited-past Flush i x (suc i) n (omega arith))
+      ∙ ap (λ (c : List ℕ). flushedMemory s (suc i) (linesFrom (x .records) (suc i) n) c (visited 1 s Flush i x .memory)) (visited-cache Flush i x)
+      ∙ ap (flushedMemory s (suc i) (linesFrom (x .records) (suc i) n) (x .cache)) (flush-step i x)
+
+  sweep-protect : (page : ℕ) (write : Bool) (n i : ℕ) (x : Store) → sweep (visited 1 s (Protect page write)) n i x .memory ≡ x .memory
+  unfolding sweep
+  sweep-protect page write zero i x = refl
+  sweep-protect page write (suc n) i x = sweep-protect page write n (suc i) (visited 1 s (Protect page write) i x) ∙ protect-step page write i x
+
+pub length-lines : (records : List ℕ) (i n : ℕ) → length (linesFrom records i n) ≡ n
+unfolding linesFrom
+length-lines records i zero = refl
+length-lines records i (suc n) = ap suc (length-lines records (suc i) n)
+
+fits-lines : (s : Shape) (records : List ℕ) → limitsHold s ≡ true → linesFit s (length (linesAt records (s .lines))) ≡ true
+unfolding linesFit
+fits-lines s records h = rw (h, eq-eqb (length (linesAt records (s .lines))) (s .lines) (length-lines records 0 (s .lines)))
+
+pub link : Link
+unfolding visitedAll
+link s x h = record {
+  protect-lines = λ page write. sweep-lines s (Protect page write) (s .lines) 0 x (omega (arith, h));
+  protect-memory = λ page write. sweep-protect s page write (s .lines) 0 x;
+  flush-lines = sweep-lines s Flush (s .lines) 0 x (omega (arith, h));
+  flush-memory = sweep-flush s (s .lines) 0 x;
+  accepted = fits-lines s (x .records);
+}

@@ -1,0 +1,90 @@
+ghost use mathlib.Core.Path.{_≡_};
+ghost use mathlib.Core.Bool.{_&&_};
+ghost use Rattle.address.specs.Addresses.{attachable};
+ghost use Rattle.board.specs.declared.Pending.{Pending};
+ghost use Rattle.machine.specs.Boards.{board as boardOf, outcome};
+ghost use Rattle.machine.specs.Refusals.{isProcess, isSlot};
+ghost use Rattle.machine.specs.Calls.{attach as attachCall, detach as detachCall};
+use board::Answer;
+use board::PROCESS_SLOTS;
+use board::Shape;
+use board::numbered;
+
+// A process, a slot and a segment in their ranges.
+fn attach_fits(s: Shape, process: usize, slot: usize, segment: u64) -> bool
+    ensures { λ r. ⌜ r ≡ (isProcess s process && (isSlot slot && attachable segment)) ⌝ }
+{
+    let a = address::attachable_segment(segment);
+    (process < s.processes) & ((slot < PROCESS_SLOTS) & a)
+}
+
+// A process and a slot in their ranges.
+fn detach_fits(s: Shape, process: usize, slot: usize) -> bool
+    ensures { λ r. ⌜ r ≡ (isProcess s process && isSlot slot) ⌝ }
+{
+    (process < s.processes) & (slot < PROCESS_SLOTS)
+}
+
+// Attaches a segment to a slot of a process.
+pub fn attach(
+    s: Shape,
+    slots: &mut [u32],
+    words: &[u64],
+    records: &[u64],
+    cache: &[u8],
+    memory: &[u8],
+    process: usize,
+    slot: usize,
+    segment: u64,
+    write: bool,
+) -> Answer
+    ensures { λ r. ⌜ ((tag : Pending) → outcome r (boardOf (now (slots .exit)) (now (words .entry)) (now (records .entry)) (now (cache .entry)) (now (memory .entry)) tag) ≡ attachCall s (boardOf (now (slots .entry)) (now (words .entry)) (now (records .entry)) (now (cache .entry)) (now (memory .entry)) tag) process slot segment write) ⌝ }
+{
+    if board::fits(
+        s,
+        slots.len(),
+        words.len(),
+        records.len(),
+        cache.len(),
+        memory.len(),
+    ) {
+        if attach_fits(s, process, slot, segment) {
+            slots::attach_slot(slots, process, slot, segment, write);
+            return numbered(0);
+        }
+        numbered(2)
+    } else {
+        numbered(1)
+    }
+}
+
+// Empties a slot of a process.
+pub fn detach(
+    s: Shape,
+    slots: &mut [u32],
+    words: &[u64],
+    records: &[u64],
+    cache: &[u8],
+    memory: &[u8],
+    process: usize,
+    slot: usize,
+) -> Answer
+    ensures { λ r. ⌜ ((tag : Pending) → outcome r (boardOf (now (slots .exit)) (now (words .entry)) (now (records .entry)) (now (cache .entry)) (now (memory .entry)) tag) ≡ detachCall s (boardOf (now (slots .entry)) (now (words .entry)) (now (records .entry)) (now (cache .entry)) (now (memory .entry)) tag) process slot) ⌝ }
+{
+    if board::fits(
+        s,
+        slots.len(),
+        words.len(),
+        records.len(),
+        cache.len(),
+        memory.len(),
+    ) {
+        if detach_fits(s, process, slot) {
+            slots::detach_slot(slots, process, slot);
+            return numbered(0);
+        }
+        numbered(2)
+    } else {
+        numbered(1)
+    }
+}

@@ -1,0 +1,8 @@
+-- From the bottom up: what a store that stands for a flat memory is, its bytes and records, each step, a visit of all records.
+pub mod Sim
+pub mod Bytes
+pub mod Zeroed
+pub mod Searches
+pub mod Held
+pub mod Steps
+pub mod Sweeps

@@ -1,0 +1,234 @@
+-- Visits of every record: what each record becomes, what stays, and that the store still stands for the flat memory.
+-- Stands on the record laws of `lines` and, for lines written back and dropped, on Steps.
+use Prim.Native.Nat.{ℕ, zero, suc, _+_, _*_, _≤_, _<_}
+use mathlib.Core.Logic.{_≢_}
+use mathlib.Core.Path.{_≡_, refl, sym, ap, _∙_}
+use mathlib.Core.Bool.{Bool, true, false, _&&_, cond}
+use mathlib.Core.List.{List}
+use native.Mathlib.Omega.{arith}
+use lib.Dec.{eqb}
+use lib.ListN.{length}
+use borrow.Author.Tests.{eqb-true, eqb-false}
+use Rattle.address.specs.Layout.{pageLines}
+use Rattle.board.specs.declared.Shape.{Shape}
+use Rattle.board.specs.declared.Home.{Home}
+use Rattle.board.specs.declared.Home.the-variants.{Line as HomeLine}
+use Rattle.lines.specs.Records.{lineAt, putLine, noLine, permittedLine}
+use Rattle.stores.specs.Stores.{Store, writtenBack, noted, dropped}
+use Rattle.lines.specs.Holds.{holdsLine, holdsAt}
+use Rattle.visits.specs.Visits.{selects, treated, visited, sweep, visitedAll}
+use Rattle.lines.specs.declared.Line.{Line}
+use Rattle.visits.specs.declared.Visit.{Visit}
+use Rattle.visits.specs.declared.Visit.the-variants.{Map, Unmap, Protect, Flush}
+use Rattle.lines.proofs.Records.{length-put, line-put-same, line-put-other}
+use Rattle.store_laws.proofs.Sim.{byte, Sim}
+use Rattle.store_laws.proofs.Steps.{written-cache, length-written, evict-records, sim-evict}
+
+-- ---- what a visit makes of a record
+
+-- a line that a visit is for
+unfoldable pub fateOf : Visit → Line → Line
+fateOf (Map page frame) l = noLine
+fateOf (Unmap page) l = noLine
+fateOf (Protect page write) l = permittedLine l write
+fateOf Flush l = noLine
+
+-- record j, which was l
+unfoldable pub fate : ℕ → Shape → Visit → ℕ → Line → Line
+fate ways s v j l = cond (holdsLine ways s j l && selects v l) (fateOf v l) l
+
+-- y is x with l as record i, the same cache bytes and as much memory
+record Step (i : ℕ) (l : Line) (x y : Store) : Type 0 where
+  records-are : y .records ≡ putLine (x .records) i l
+  cache-same : y .cache ≡ x .cache
+  memory-length : length (y .memory) ≡ length (x .memory)
+
+-- y has x's cache bytes, and as many records and as much memory
+pub record SameCache (x y : Store) : Type 0 where
+  pub records-length : length (y .records) ≡ length (x .records)
+  pub cache-same : y .cache ≡ x .cache
+  pub memory-length : length (y .memory) ≡ length (x .memory)
+
+module _ (ways : ℕ) (s : Shape) where
+  written-retired : (i : ℕ) (x : Store) → Step i noLine x (dropped i (writtenBack ways s i x))
+  unfolding dropped noted
+  written-retired i x = record { records-are = evict-records ways s i x; cache-same = written-cache ways s i x; memory-length = length-written ways s i x }
+
+  treated-step : (v : Visit) (i : ℕ) (x : Store) → Step i (fateOf v (lineAt (x .records) i)) x (treated ways s v i x)
+  unfolding treated dropped noted fateOf
+  treated-step (Map page frame) i x = record { records-are = refl; cache-same = refl; memory-length = refl }
+  treated-step (Unmap page) i x = written-retired i x
+  treated-step (Protect page write) i x = record { records-are = refl; cache-same = refl; memory-length = refl }
+  treated-step Flush i x = written-retired i x
+
+  module _ (v : Visit) where
+    visited-here : (i : ℕ) (x : Store) → 2 * i + 2 ≤ length (x .records) → lineAt (visited ways s v i x .records) i ≡ fate ways s v i (lineAt (x .records) i)
+    unfolding visited fate holdsAt
+    visited-here i x b = go (holdsLine ways s i (lineAt (x .records) i) && selects v (lineAt (x .records) i))
+      where
+        go : (t : Bool) → lineAt (cond t (treated ways s v i x) x .records) i ≡ cond t (fateOf v (lineAt (x .records) i)) (lineAt (x .records) i)
+        go true = rw (treated-step v i x .records-are) (line-put-same (x .records) i (fateOf v (lineAt (x .records) i)) b)
+        go false = refl
+
+    visited-other : (i j : ℕ) (x : Store) → i ≢ j → lineAt (visited ways s v i x .records) j ≡ lineAt (x .records) j
+    unfolding visited
+    visited-other i j x n = go (holdsAt ways s (x .records) i && selects v (lineAt (x .records) i))
+      where
+        go : (t : Bool) → lineAt (cond t (treated ways s v i x) x .records) j ≡ lineAt (x .records) j
+        go true = rw (treated-step v i x .records-are) (line-put-other (x .records) i (fateOf v (lineAt (x .records) i)) j n)
+        go false = refl
+
+    visited-cache : (i : ℕ) (x : Store) → SameCache x (visited ways s v i x)
+    unfolding visited
+    visited-cache i x = go (holdsAt ways s (x .records) i && selects v (lineAt (x .records) i))
+      where
+        go : (t : Bool) → SameCache x (cond t (treated ways s v i x) x)
+        go true =
+            let r = treated-step v i x in
+            record {
+              records-length = rw (r .records-are) (length-put (x .records) i (fateOf v (lineAt (x .records) i)));
+              cache-same = r .cache-same;
+              memory-length = r .memory-length;
+            }
+        go false = record { records-length = refl; cache-same = refl; memory-length = refl }
+
+-- ---- what all the visits make of the records
+
+-- what every visit keeps, a sweep keeps
+sweep-keeps : (f : ℕ → Store → Store) (P : Store → Type 0) → ((i : ℕ) (x : Store) → P x → P (f i x)) → (n i : ℕ) (x : Store) → P x → P (sweep f n i x)
+unfolding sweep
+sweep-keeps f P h zero i x p = p
+sweep-keeps f P h (suc n) i x p = sweep-keeps f P h n (suc i) (f i x) (h i x p)
+
+module _ (ways : ℕ) (s : Shape) (v : Visit) where
+  sweep-below : (n i j : ℕ) (x : Store) → j < i → lineAt (sweep (visited ways s v) n i x .records) j ≡ lineAt (x .records) j
+  unfolding sweep
+  sweep-below zero i j x h = refl
+  sweep-below (suc n) i j x h = sweep-below n (suc i) j (visited ways s v i x) (omega arith) ∙ visited-other ways s v i j x (omega arith)
+
+  sweep-line : (n i j : ℕ) (x : Store) → i ≤ j → j < i + n → 2 * (i + n) ≤ length (x .records)
+      → lineAt (sweep (visited ways s v) n i x .records) j ≡ fate ways s v j (lineAt (x .records) j)
+  unfolding sweep
+  sweep-line zero i j x a b l = absurd (omega arith)
+  sweep-line (suc n) i j x a b l = go (eqb i j) refl (sweep-line n (suc i) j (visited ways s v i x))
+    where
+      go : (t : Bool) → eqb i j ≡ t
+          → (suc i ≤ j → j < suc i + n → 2 * (suc i + n) ≤ length (visited ways s v i x .records)
+          → lineAt (sweep (visited ways s v) n (suc i) (visited ways s v i x) .records) j ≡ fate ways s v j (lineAt (visited ways s v i x .records) j))
+          → lineAt (sweep (visited ways s v) n (suc i) (visited ways s v i x) .records) j ≡ fate ways s v j (lineAt (x .records) j)
+      go true t later =
+          let q : i ≡ j = eqb-true i j t in
+          sweep-below n (suc i) j (visited ways s v i x) (omega arith) ∙ rw (← q) (visited-here ways s v i x (omega arith))
+      go false t later =
+          let q = eqb-false i j t in
+          later (omega arith) (omega arith) (omega (arith, visited-cache ways s v i x .records-length))
+          ∙ rw (visited-other ways s v i j x q)
+
+  module _ (x : Store) where
+    pub swept-cache : SameCache x (visitedAll ways s v x)
+    unfolding visitedAll
+    swept-cache =
+        sweep-keeps (visited ways s v) (λ (y : Store). SameCache x y)
+        (λ i y a. let b = visited-cache ways s v i y in
+        record {
+          records-length = b .records-length ∙ a .records-length;
+          cache-same = b .cache-same ∙ a .cache-same;
+          memory-length = b .memory-length ∙ a .memory-length;
+        })
+        (s .lines) 0 x (record { records-length = refl; cache-same = refl; memory-length = refl })
+
+    pub swept-line : (j : ℕ) → length (x .records) ≡ 2 * s .lines → j < s .lines
+        → lineAt (visitedAll ways s v x .records) j ≡ fate ways s v j (lineAt (x .records) j)
+    unfolding visitedAll
+    swept-line j z h = sweep-line (s .lines) 0 j x (omega arith) (omega arith) (omega arith)
+
+    -- a visit that never writes back
+    swept-memory : ((i : ℕ) (y : Store) → treated ways s v i y .memory ≡ y .memory) → visitedAll ways s v x .memory ≡ x .memory
+    unfolding visitedAll visited
+    swept-memory keeps =
+        sweep-keeps (visited ways s v) (λ (y : Store). y .memory ≡ x .memory)
+        (λ i y a. one i y (holdsAt ways s (y .records) i && selects v (lineAt (y .records) i)) ∙ a)
+        (s .lines) 0 x refl
+      where
+        one : (i : ℕ) (y : Store) (t : Bool) → cond t (treated ways s v i y) y .memory ≡ y .memory
+        one i y true = keeps i y
+        one i y false = refl
+
+module _ (ways : ℕ) (s : Shape) (x : Store) (page : ℕ) where
+  pub swept-memory-map : (frame : ℕ) → visitedAll ways s (Map page frame) x .memory ≡ x .memory
+  unfolding treated dropped noted
+  swept-memory-map frame = swept-memory ways s (Map page frame) x (λ i y. refl)
+
+  pub swept-memory-protect : (write : Bool) → visitedAll ways s (Protect page write) x .memory ≡ x .memory
+  unfolding treated noted
+  swept-memory-protect write = swept-memory ways s (Protect page write) x (λ i y. refl)
+
+-- ---- lines kept, dropped or relabelled, with the map and the bytes of memory changed around them
+
+-- record j of y holds a line that x held there, with the same physical line and mark, at its home in the new map
+pub record Kept (ways : ℕ) (s : Shape) (home′ : ℕ → Home) (x y : Store) (j : ℕ) : Type 0 where
+  pub was : holdsAt ways s (x .records) j ≡ true
+  pub physical-is : lineAt (y .records) j .physical ≡ lineAt (x .records) j .physical
+  pub changed-is : lineAt (y .records) j .changed ≡ lineAt (x .records) j .changed
+  pub maps : home′ (lineAt (y .records) j .name) ≡ HomeLine (lineAt (y .records) j .physical) (lineAt (y .records) j .write)
+
+module _ (ways : ℕ) (s : Shape) (home home′ : ℕ → Home) (x y : Store) (m m′ : List ℕ) (sim : Sim ways s home x m)
+    (alike : SameCache x y) (flat-length : length m′ ≡ length m)
+    (kept : (j : ℕ) → holdsAt ways s (y .records) j ≡ true → Kept ways s home′ x y j)
+    (in-memory : (j k : ℕ) → holdsAt ways s (y .records) j ≡ true → k < 16
+    → byte (y .memory) (lineAt (y .records) j .physical) k ≡ byte (x .memory) (lineAt (y .records) j .physical) k)
+    (in-flat : (j k : ℕ) → holdsAt ways s (y .records) j ≡ true → k < 16
+    → byte m′ (lineAt (y .records) j .physical) k ≡ byte m (lineAt (y .records) j .physical) k)
+    (bare : (p k : ℕ) → ((j : ℕ) → holdsAt ways s (y .records) j ≡ true → lineAt (y .records) j .physical ≡ p → ⊥) → p < pageLines * s .frames → k < 16
+    → byte m′ p k ≡ byte (y .memory) p k) where
+  clean : (j k : ℕ) → holdsAt ways s (y .records) j ≡ true → lineAt (y .records) j .changed ≡ false → k < 16
+      → byte (y .cache) j k ≡ byte (y .memory) (lineAt (y .records) j .physical) k
+  clean j k a d b =
+      let f = kept j a in
+      let z = sim .clean j k (f .was) (sym (f .changed-is) ∙ d) b in
+      rw (alike .cache-same) (z ∙ rw (← f .physical-is) (sym (in-memory j k a b)))
+
+  cached : (j k : ℕ) → holdsAt ways s (y .records) j ≡ true → k < 16 → byte m′ (lineAt (y .records) j .physical) k ≡ byte (y .cache) j k
+  cached j k a b =
+      let f = kept j a in
+      rw (alike .cache-same) (in-flat j k a b ∙ rw (f .physical-is) (sim .cached j k (f .was) b))
+
+  pub kept-sim : Sim ways s home′ y m′
+  kept-sim = record {
+    ways-pos = sim .ways-pos;
+    sets-pos = sim .sets-pos;
+    record-count = alike .records-length ∙ sim .record-count;
+    cache-count = ap length (alike .cache-same) ∙ sim .cache-count;
+    memory-count = alike .memory-length ∙ sim .memory-count;
+    flat-count = flat-length ∙ sim .flat-count;
+    once = λ i j a b q. let f = kept i a in let g = kept j b in sim .once i j (f .was) (g .was) (sym (f .physical-is) ∙ q ∙ g .physical-is);
+    maps = λ j a. kept j a .maps;
+    clean = clean;
+    cached = cached;
+    bare = bare;
+  }
+
+-- ---- lines written back and dropped
+
+-- a visit that writes back and drops, to every record it is for
+module _ (ways : ℕ) (s : Shape) (home : ℕ → Home) (m : List ℕ) where
+  sim-swept : (v : Visit) → ((i : ℕ) (x : Store) → treated ways s v i x ≡ dropped i (writtenBack ways s i x)) → (x : Store)
+      → Sim ways s home x m → Sim ways s home (visitedAll ways s v x) m
+  unfolding visitedAll visited
+  sim-swept v retires x sim =
+      sweep-keeps (visited ways s v) (λ (y : Store). Sim ways s home y m)
+      (λ i y a. one i y a (holdsAt ways s (y .records) i) (selects v (lineAt (y .records) i)) refl)
+      (s .lines) 0 x sim
+    where
+      one : (i : ℕ) (y : Store) → Sim ways s home y m → (t u : Bool) → holdsAt ways s (y .records) i ≡ t → Sim ways s home (cond (t && u) (treated ways s v i y) y) m
+      one i y a true true h = rw (retires i y) (sim-evict a i h)
+      one i y a true false h = a
+      one i y a false u h = a
+
+  pub sim-swept-unmap : (page : ℕ) (x : Store) → Sim ways s home x m → Sim ways s home (visitedAll ways s (Unmap page) x) m
+  unfolding treated
+  sim-swept-unmap page = sim-swept (Unmap page) (λ i x. refl)
+
+  pub sim-swept-flush : (x : Store) → Sim ways s home x m → Sim ways s home (visitedAll ways s Flush x) m
+  unfolding treated
+  sim-swept-flush = sim-swept Flush (λ i x. refl)

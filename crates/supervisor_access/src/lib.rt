@@ -1,0 +1,129 @@
+ghost use mathlib.Core.Path.{_≡_};
+ghost use lib.ListN.{length};
+ghost use Rattle.machine.specs.Boards.{board as boardOf, outcome};
+ghost use Rattle.machine.specs.Accesses.{supervisorAccess};
+ghost use Rattle.supervisor_access.specs.Plans.{regionPlan, waits, supervisorPlan};
+use address::GLOBAL_END;
+use address::Global;
+use address::Physical;
+use address::Region;
+use board::Answer;
+use board::Pending;
+use board::Shape;
+use board::numbered;
+use stores::Access;
+
+// The same of a supervisor access: a refusal's number, the line's address, or the address in memory.
+pub enum Plan {
+    Stop(u32),
+    Line(Global),
+    Memory(Physical),
+}
+
+// Numbers 10 and 12 of an access under prefix 1, or its line.
+fn cached_plan(s: Shape, words: &[u64], g: Global) -> Plan
+    requires { ⌜ length (now words) ≡ s .frames ⌝ }
+    ensures { λ r. ⌜ r ≡ regionPlan s (now (words .entry)) g Region.Cached ⌝ }
+{
+    let frame = g.physical().frame();
+    if s.frames <= frame {
+        return Plan::Stop(12);
+    }
+    if words[frame] != 0 {
+        return Plan::Stop(10);
+    }
+    if frame < s.uncached {
+        return Plan::Stop(12);
+    }
+    Plan::Line(g)
+}
+
+// Numbers 10 and 12 of a supervisor access, or where it goes.
+fn region_plan(s: Shape, words: &[u64], g: Global, region: Region) -> Plan
+    requires { ⌜ length (now words) ≡ s .frames ⌝ }
+    ensures { λ r. ⌜ r ≡ regionPlan s (now (words .entry)) g region ⌝ }
+{
+    match region {
+        Region::Ordinary => Plan::Line(g),
+        Region::Cached => cached_plan(s, words, g),
+        Region::Uncached => {
+            let p = g.physical();
+            if s.uncached <= p.frame() {
+                return Plan::Stop(12);
+            }
+            Plan::Memory(p)
+        }
+        Region::PageTable => Plan::Stop(12),
+    }
+}
+
+// A supervisor access to an ordinary address waits for a pending tag.
+fn must_wait(tag: Pending, region: Region) -> bool
+    ensures { λ r. ⌜ r ≡ waits tag region ⌝ }
+{
+    match region {
+        Region::Ordinary => tag.set,
+        Region::Cached => false,
+        Region::Uncached => false,
+        Region::PageTable => false,
+    }
+}
+
+// Numbers 2, 3, 4, 10 and 12 of a supervisor access, or where it goes.
+fn supervisor_plan(s: Shape, words: &[u64], tag: Pending, a: Access, g: Global) -> Plan
+    requires { ⌜ length (now words) ≡ s .frames ⌝ }
+    ensures { λ r. ⌜ r ≡ supervisorPlan s (now (words .entry)) tag a g ⌝ }
+{
+    if g.0 >= GLOBAL_END {
+        return Plan::Stop(2);
+    }
+    let region = g.region();
+    if must_wait(tag, region) {
+        return Plan::Stop(3);
+    }
+    if line_access::aligned(a.width, g.0) {
+        return region_plan(s, words, g, region);
+    }
+    Plan::Stop(4)
+}
+
+// A supervisor's load or store by global address.
+pub fn supervisor_access(
+    s: Shape,
+    slots: &[u32],
+    words: &[u64],
+    records: &mut [u64],
+    cache: &mut [u8],
+    memory: &mut [u8],
+    tag: Pending,
+    a: Access,
+    g: Global,
+) -> Answer
+    ensures { λ r. ⌜ outcome r (boardOf (now (slots .entry)) (now (words .entry)) (now (records .exit)) (now (cache .exit)) (now (memory .exit)) tag) ≡ supervisorAccess s (boardOf (now (slots .entry)) (now (words .entry)) (now (records .entry)) (now (cache .entry)) (now (memory .entry)) tag) a g ⌝ }
+{
+    if board::fits(
+        s,
+        slots.len(),
+        words.len(),
+        records.len(),
+        cache.len(),
+        memory.len(),
+    ) {
+        match supervisor_plan(s, words, tag, a, g) {
+            Plan::Stop(n) => numbered(n),
+            Plan::Line(h) => line_access::line_access(
+                s,
+                words,
+                records,
+                cache,
+                memory,
+                h,
+                false,
+                a,
+            ),
+            Plan::Memory(p) => line_access::memory_access(records, cache, memory, p, a),
+        }
+    } else {
+        numbered(1)
+    }
+}

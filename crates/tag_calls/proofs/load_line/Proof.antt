@@ -1,0 +1,13 @@
+-- `load_line` inserts the line unless a record holds it.
+use Rattle.tag_calls.proofs.Loads.{loaded-held, loaded-new}
+use borrow.Author.Needs.{needs}
+use Rattle.tag_calls.proofs.load_line.Statement.{statement}
+use Rattle.tag_calls.proofs.load_line.Tie as tie
+
+pub load-line-spec : {M : Type 1} → statement M
+load-line-spec =
+    tie.close (tie.spec
+    (search needs) (search needs) (search needs) (search needs) (search needs) (search needs)
+    (λ c. search (needs, loaded-held))
+    (search needs) (search needs) (search needs)
+    (λ c. search (needs, loaded-new)))

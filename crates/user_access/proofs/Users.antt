@@ -1,0 +1,68 @@
+-- A user access: the check carried to the access's table, return by return.
+use Prim.Native.Nat.{ℕ}
+use mathlib.Core.Path.{_≡_, _∙_, sym, ap}
+use mathlib.Core.Bool.{Bool, true, false}
+use mathlib.Core.List.{List, _++_}
+use lib.ListN.{length}
+use Rattle.address.specs.declared.Effective.{Effective}
+use Rattle.address.specs.declared.Global.{Global}
+use Rattle.board.specs.Answers.{answer}
+use Rattle.board.specs.Shapes.{fitsShape}
+use Rattle.board.specs.declared.Answer.{Answer}
+use Rattle.board.specs.declared.Shape.{Shape}
+use Rattle.board.specs.declared.Pending.{Pending}
+use Rattle.stores.specs.Stores.{store}
+use Rattle.stores.specs.declared.Access.{Access}
+use Rattle.machine.specs.Boards.{Board, board, Outcome, outcome, refused}
+use Rattle.machine.specs.Refusals.{byTable, lineRows}
+use Rattle.machine.specs.Accesses.{reached, stopped, wayTo, accessed, onBoard, userRows, userGlobal, userTable, userAccess}
+use Rattle.machine.proofs.Tables.{table-append, table-map}
+use Rattle.line_access.specs.LineAccess.{lineAccess}
+use Rattle.user_access.specs.Checks.{userCheck}
+use Rattle.user_access.specs.declared.Check.{Check}
+use Rattle.user_access.specs.declared.Check.the-variants.{Refuse, Go}
+
+-- what follows a check
+unfoldable checked : Shape → Board → Access → Check → Outcome
+checked s b a (Refuse n) = refused b n
+checked s b a (Go g) = onBoard b (lineAccess s (b .words) g true a (b .store))
+
+module _ (s : Shape) (b : Board) (process : ℕ) (a : Access) (e : Effective) where
+  -- a line's two rows, carried to the board
+  checked-line : (g : Global)
+      → checked s b a (Go g) ≡ byTable (refused b) (lineRows a (wayTo s (b .words) (b .store .records) g)) (onBoard b (accessed s (b .words) g a (b .store)))
+  unfolding checked lineAccess
+  checked-line g = table-map (onBoard b) (stopped (b .store)) (lineRows a (wayTo s (b .words) (b .store .records) g)) (accessed s (b .words) g a (b .store))
+
+  -- a check's rows, then a line's
+  checked-rows : checked s b a (userCheck s (b .slots) (b .tag) process a e)
+      ≡ byTable (refused b) (userRows s (b .slots) (b .tag) process a e ++ lineRows a (wayTo s (b .words) (b .store .records) (userGlobal (b .slots) process e)))
+      (onBoard b (accessed s (b .words) (userGlobal (b .slots) process e) a (b .store)))
+  unfolding checked userCheck
+  checked-rows =
+      table-map (checked s b a) Refuse (userRows s (b .slots) (b .tag) process a e) (Go (userGlobal (b .slots) process e))
+      ∙ ap (byTable (refused b) (userRows s (b .slots) (b .tag) process a e)) (checked-line (userGlobal (b .slots) process e))
+      ∙ sym (table-append (refused b) (userRows s (b .slots) (b .tag) process a e) _ _)
+
+module _ (s : Shape) (slots words r c m : List ℕ) (tag : Pending) (process : ℕ) (a : Access) (e : Effective) (t : Bool)
+    (f : t ≡ fitsShape s (length slots) (length words) (length r) (length c) (length m)) where
+  pub user-unfit : (x : Answer) → t ≡ false → x ≡ answer 1 0 0
+      → outcome x (board slots words r c m tag) ≡ userAccess s (board slots words r c m tag) process a e
+  unfolding userAccess userTable byTable
+  user-unfit x h k = rw (k, ← f, h)
+
+  module _ (h : t ≡ true) (k : Check) (q : k ≡ userCheck s slots tag process a e) where
+    user-on : checked s (board slots words r c m tag) a k ≡ userAccess s (board slots words r c m tag) process a e
+    unfolding userAccess userTable byTable
+    user-on = ap (checked s (board slots words r c m tag) a) q ∙ checked-rows s (board slots words r c m tag) process a e ∙ rw (← f, h)
+
+    pub user-refused : (n : ℕ) (x : Answer) → k ≡ Refuse n → x ≡ answer n 0 0
+        → outcome x (board slots words r c m tag) ≡ userAccess s (board slots words r c m tag) process a e
+    unfolding checked
+    user-refused n x i j = rw j (ap (checked s (board slots words r c m tag) a) (sym i) ∙ user-on)
+
+    pub user-goes : (g : Global) (x : Answer) (r₁ c₁ m₁ : List ℕ) → k ≡ Go g → reached x r₁ c₁ m₁ ≡ lineAccess s words g true a (store r c m)
+        → outcome x (board slots words r₁ c₁ m₁ tag) ≡ userAccess s (board slots words r c m tag) process a e
+    unfolding checked
+    user-goes g x r₁ c₁ m₁ i d =
+        ap (onBoard (board slots words r c m tag)) d ∙ ap (checked s (board slots words r c m tag) a) (sym i) ∙ user-on

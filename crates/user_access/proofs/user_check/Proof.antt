@@ -1,0 +1,18 @@
+-- `user_check` is rows 2 to 5, then `slot_check`: one law a return.
+use Rattle.user_access.proofs.Checks.{slot-inside, check-process, check-tag, check-aligned, check-kernels, check-slot}
+use borrow.Author.Needs.{needs}
+use Rattle.user_access.proofs.user_check.Statement.{statement}
+use Rattle.user_access.proofs.user_check.Tie as tie
+
+pub user-check-spec : {M : Type 1} → statement M
+user-check-spec =
+    tie.close (tie.spec
+    (λ c. search (needs, check-process))
+    (λ c. search (needs, check-tag))
+    (search needs) (search needs) (search needs)
+    (λ c. search (needs, check-kernels))
+    (search needs) (search needs) (search needs) (search needs)
+    (λ c. search (needs, slot-inside))
+    (search needs)
+    (λ c. search (needs, check-slot))
+    (λ c. search (needs, check-aligned)))

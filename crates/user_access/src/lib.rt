@@ -1,0 +1,95 @@
+ghost use mathlib.Core.Path.{_≡_};
+ghost use Prim.Native.Nat.{_*_, _≤_};
+ghost use lib.ListN.{length};
+ghost use Rattle.address.specs.Layout.{processSlots};
+ghost use Rattle.board.specs.Shapes.{maxProcesses};
+ghost use Rattle.machine.specs.Boards.{board as boardOf, outcome};
+ghost use Rattle.machine.specs.Accesses.{userAccess};
+ghost use Rattle.user_access.specs.Checks.{slotCheck, userCheck};
+use address::Effective;
+use address::Global;
+use board::Answer;
+use board::PROCESS_SLOTS;
+use board::Pending;
+use board::Shape;
+use board::numbered;
+use stores::Access;
+
+// What is decided of a user access before a line is touched: a refusal's number, or the global address.
+pub enum Check {
+    Refuse(u32),
+    Go(Global),
+}
+
+// Numbers 6 and 7 by the slot's word, or the global address.
+fn slot_check(word: u32, a: Access, e: Effective) -> Check
+    ensures { λ r. ⌜ r ≡ slotCheck word a e ⌝ }
+{
+    let segment = (word / 2) as u64;
+    if address::attachable_segment(segment) {
+        if a.store & (word % 2 != 1) {
+            return Check::Refuse(7);
+        }
+        return Check::Go(e.in_segment(segment));
+    }
+    Check::Refuse(6)
+}
+
+// Numbers 2 to 7 of a user access, or the global address.
+fn user_check(
+    s: Shape,
+    slots: &[u32],
+    tag: Pending,
+    process: usize,
+    a: Access,
+    e: Effective,
+) -> Check
+    requires { ⌜ (length (now slots) ≡ s .processes * processSlots) × (s .processes ≤ maxProcesses) ⌝ }
+    ensures { λ r. ⌜ r ≡ userCheck s (now (slots .entry)) tag process a e ⌝ }
+{
+    if process >= s.processes {
+        return Check::Refuse(2);
+    }
+    if tag.set {
+        return Check::Refuse(3);
+    }
+    if line_access::aligned(a.width, e.0 as u64) {
+        if e.is_kernels() {
+            return Check::Refuse(5);
+        }
+        return slot_check(slots[process * PROCESS_SLOTS + e.slot()], a, e);
+    }
+    Check::Refuse(4)
+}
+
+// A user's load or store.
+pub fn user_access(
+    s: Shape,
+    slots: &[u32],
+    words: &[u64],
+    records: &mut [u64],
+    cache: &mut [u8],
+    memory: &mut [u8],
+    tag: Pending,
+    process: usize,
+    a: Access,
+    e: Effective,
+) -> Answer
+    ensures { λ r. ⌜ outcome r (boardOf (now (slots .entry)) (now (words .entry)) (now (records .exit)) (now (cache .exit)) (now (memory .exit)) tag) ≡ userAccess s (boardOf (now (slots .entry)) (now (words .entry)) (now (records .entry)) (now (cache .entry)) (now (memory .entry)) tag) process a e ⌝ }
+{
+    if board::fits(
+        s,
+        slots.len(),
+        words.len(),
+        records.len(),
+        cache.len(),
+        memory.len(),
+    ) {
+        match user_check(s, slots, tag, process, a, e) {
+            Check::Refuse(n) => numbered(n),
+            Check::Go(g) => line_access::line_access(s, words, records, cache, memory, g, true, a),
+        }
+    } else {
+        numbered(1)
+    }
+}
