@@ -71,7 +71,7 @@ module _ (s : Shape) (words : List ℕ) (page frame n : ℕ) (e : n ≡ mapNumbe
 -- ---- the change
 
 module _ (s : Shape) (page frame : ℕ) (w r c m r₁ m₁ : List ℕ) where
-  pub mapped-by : (write : Bool) (m₂ : List ℕ) (word : ℕ) → store r₁ c m₁ ≡ visitedAll 1 s (Map page frame) (store r c m) → m₂ ≡ zeroedFrame m₁ frame
+  mapped-by : (write : Bool) (m₂ : List ℕ) (word : ℕ) → store r₁ c m₁ ≡ visitedAll 1 s (Map page frame) (store r c m) → m₂ ≡ zeroedFrame m₁ frame
       → word ≡ frameWord page write → pages (set w frame word) r₁ c m₂ ≡ mapped s page frame write (pages w r c m)
   unfolding mapped
   mapped-by write m₂ word e z g = rw (z, g, ← e)
@@ -111,8 +111,9 @@ module _ (s : Shape) (slots w r c m : List ℕ) (tag : Pending) (t : Bool) (f : 
     pub map-refused : (n ≡ 0 → ⊥) → a ≡ answer n 0 0 → outcome a b ≡ mapPage s b page frame write
     map-refused k q = by-refusal b _ a n k q ∙ map-on
 
-    pub map-done : (w₁ r₁ m₁ : List ℕ) → n ≡ 0 → pages w₁ r₁ c m₁ ≡ mapped s page frame write (pages w r c m) → a ≡ answer 0 0 0
-        → outcome a (board slots w₁ r₁ c m₁ tag) ≡ mapPage s b page frame write
+    pub map-done : (r₁ m₁ m₂ : List ℕ) (word : ℕ) → n ≡ 0 → store r₁ c m₁ ≡ visitedAll 1 s (Map page frame) (store r c m) → m₂ ≡ zeroedFrame m₁ frame
+        → word ≡ frameWord page write → a ≡ answer 0 0 0 → outcome a (board slots (set w frame word) r₁ c m₂ tag) ≡ mapPage s b page frame write
     unfolding byNumber
-    map-done w₁ r₁ m₁ k d q =
-        pages-done slots w r c m tag a _ w₁ r₁ m₁ d q ∙ (ap (byNumber (refused b) (done (withPages b (mapped s page frame write (pagesOf b))))) (sym k) ∙ map-on)
+    map-done r₁ m₁ m₂ word k v z g q =
+        pages-done slots w r c m tag a _ (set w frame word) r₁ m₂ (mapped-by s page frame w r c m r₁ m₁ write m₂ word v z g) q
+        ∙ (ap (byNumber (refused b) (done (withPages b (mapped s page frame write (pagesOf b))))) (sym k) ∙ map-on)

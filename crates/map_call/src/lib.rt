@@ -1,11 +1,9 @@
 ghost use mathlib.Core.Path.{_≡_};
-ghost use Prim.Native.Nat.{_<_, _^_};
 ghost use lib.ListN.{length};
 ghost use Rattle.board.specs.declared.Pending.{Pending};
-ghost use Rattle.stores.specs.Premises.{Sized};
-ghost use Rattle.machine.specs.Boards.{board as boardOf, outcome, pages};
+ghost use Rattle.machine.specs.Boards.{board as boardOf, outcome};
 ghost use Rattle.machine.specs.Refusals.{isFrame};
-ghost use Rattle.machine.specs.Calls.{mapped, mapPage as mapCall};
+ghost use Rattle.machine.specs.Calls.{mapPage as mapCall};
 ghost use Rattle.map_call.specs.Numbers.{mapNumber};
 use board::Answer;
 use board::Found;
@@ -38,26 +36,7 @@ fn map_number(s: Shape, words: &[u64], page: u64, frame: usize) -> u32
     2
 }
 
-// Drops the lines of the page and of the frame's prefix 1 range, zeroes the frame, sets its word.
-fn map_page(
-    s: Shape,
-    words: &mut [u64],
-    records: &mut [u64],
-    cache: &[u8],
-    memory: &mut [u8],
-    page: u64,
-    frame: usize,
-    write: bool,
-)
-    requires { ⌜ Sized s (now records) (now cache) (now memory) × (length (now words) ≡ s .frames) × (frame < s .frames) × (page < 2 ^ 32) ⌝ }
-    ensures { λ _. ⌜ pages (now (words .exit)) (now (records .exit)) (now (cache .entry)) (now (memory .exit)) ≡ mapped s page frame write (pages (now (words .entry)) (now (records .entry)) (now (cache .entry)) (now (memory .entry))) ⌝ }
-{
-    visits::visit_all(s, records, cache, memory, Visit::Map(page, frame));
-    line_bytes::zero_frame(memory, frame);
-    words[frame] = pages::frame_word(page, write);
-}
-
-// Maps a page to a frame.
+// Maps a page to a frame: drops the lines of the page and of the frame's prefix 1 range, zeroes the frame, sets its word.
 pub fn map(
     s: Shape,
     slots: &[u32],
@@ -81,7 +60,9 @@ pub fn map(
     ) {
         let number = map_number(s, words, page, frame);
         if number == 0 {
-            map_page(s, words, records, cache, memory, page, frame, write);
+            visits::visit_all(s, records, cache, memory, Visit::Map(page, frame));
+            line_bytes::zero_frame(memory, frame);
+            words[frame] = pages::frame_word(page, write);
             return numbered(0);
         }
         numbered(number)

@@ -62,11 +62,11 @@ module _ (s : Shape) (words : List ℕ) (page f : ℕ) (k : Frame) (e : k ≡ pa
 -- ---- the changes
 
 module _ (s : Shape) (page frame : ℕ) (w r c m r₁ m₁ : List ℕ) where
-  pub unmapped-by : store r₁ c m₁ ≡ visitedAll 1 s (Unmap page) (store r c m) → pages (set w frame 0) r₁ c m₁ ≡ unmapped s page frame (pages w r c m)
+  unmapped-by : store r₁ c m₁ ≡ visitedAll 1 s (Unmap page) (store r c m) → pages (set w frame 0) r₁ c m₁ ≡ unmapped s page frame (pages w r c m)
   unfolding unmapped
   unmapped-by e = rw (← e)
 
-  pub protected-by : (write : Bool) (word : ℕ) → store r₁ c m₁ ≡ visitedAll 1 s (Protect page write) (store r c m) → word ≡ frameWord page write
+  protected-by : (write : Bool) (word : ℕ) → store r₁ c m₁ ≡ visitedAll 1 s (Protect page write) (store r c m) → word ≡ frameWord page write
       → pages (set w frame word) r₁ c m₁ ≡ protected s page frame write (pages w r c m)
   unfolding protected
   protected-by write word e g = rw (g, ← e)
@@ -97,11 +97,12 @@ module _ (s : Shape) (slots w r c m : List ℕ) (tag : Pending) (t : Bool) (f : 
     unfolding byFrame
     unmap-stop n j q = rw q (ap (byFrame (refused b) (λ x. done (withPages b (unmapped s page x (pagesOf b))))) (sym j) ∙ unmap-on)
 
-    pub unmap-done : (x : ℕ) (w₁ r₁ m₁ : List ℕ) → k ≡ On x → pages w₁ r₁ c m₁ ≡ unmapped s page x (pages w r c m) → a ≡ answer 0 0 0
-        → outcome a (board slots w₁ r₁ c m₁ tag) ≡ unmap s b page
+    pub unmap-done : (x : ℕ) (r₁ m₁ : List ℕ) → k ≡ On x → store r₁ c m₁ ≡ visitedAll 1 s (Unmap page) (store r c m) → a ≡ answer 0 0 0
+        → outcome a (board slots (set w x 0) r₁ c m₁ tag) ≡ unmap s b page
     unfolding byFrame
-    unmap-done x w₁ r₁ m₁ j d q =
-        pages-done slots w r c m tag a _ w₁ r₁ m₁ d q ∙ (ap (byFrame (refused b) (λ y. done (withPages b (unmapped s page y (pagesOf b))))) (sym j) ∙ unmap-on)
+    unmap-done x r₁ m₁ j v q =
+        pages-done slots w r c m tag a _ (set w x 0) r₁ m₁ (unmapped-by s page x w r c m r₁ m₁ v) q
+        ∙ (ap (byFrame (refused b) (λ y. done (withPages b (unmapped s page y (pagesOf b))))) (sym j) ∙ unmap-on)
 
     module _ (write : Bool) where
       protect-on : byFrame (refused b) (λ x. done (withPages b (protected s page x write (pagesOf b)))) k ≡ protect s b page write
@@ -112,8 +113,9 @@ module _ (s : Shape) (slots w r c m : List ℕ) (tag : Pending) (t : Bool) (f : 
       unfolding byFrame
       protect-stop n j q = rw q (ap (byFrame (refused b) (λ x. done (withPages b (protected s page x write (pagesOf b))))) (sym j) ∙ protect-on)
 
-      pub protect-done : (x : ℕ) (w₁ r₁ m₁ : List ℕ) → k ≡ On x → pages w₁ r₁ c m₁ ≡ protected s page x write (pages w r c m) → a ≡ answer 0 0 0
-          → outcome a (board slots w₁ r₁ c m₁ tag) ≡ protect s b page write
+      pub protect-done : (x word : ℕ) (r₁ m₁ : List ℕ) → k ≡ On x → store r₁ c m₁ ≡ visitedAll 1 s (Protect page write) (store r c m)
+          → word ≡ frameWord page write → a ≡ answer 0 0 0 → outcome a (board slots (set w x word) r₁ c m₁ tag) ≡ protect s b page write
       unfolding byFrame
-      protect-done x w₁ r₁ m₁ j d q =
-          pages-done slots w r c m tag a _ w₁ r₁ m₁ d q ∙ (ap (byFrame (refused b) (λ y. done (withPages b (protected s page y write (pagesOf b))))) (sym j) ∙ protect-on)
+      protect-done x word r₁ m₁ j v g q =
+          pages-done slots w r c m tag a _ (set w x word) r₁ m₁ (protected-by s page x w r c m r₁ m₁ write word v g) q
+          ∙ (ap (byFrame (refused b) (λ y. done (withPages b (protected s page y write (pagesOf b))))) (sym j) ∙ protect-on)

@@ -1,10 +1,7 @@
 ghost use mathlib.Core.Path.{_≡_};
-ghost use Prim.Native.Nat.{_<_, _^_};
-ghost use lib.ListN.{length};
 ghost use Rattle.board.specs.declared.Pending.{Pending};
-ghost use Rattle.stores.specs.Premises.{Sized};
-ghost use Rattle.machine.specs.Boards.{board as boardOf, outcome, pages};
-ghost use Rattle.machine.specs.Calls.{unmapped, protected, unmap as unmapCall, protect as protectCall};
+ghost use Rattle.machine.specs.Boards.{board as boardOf, outcome};
+ghost use Rattle.machine.specs.Calls.{unmap as unmapCall, protect as protectCall};
 ghost use Rattle.page_calls.specs.Checks.{pageFrame};
 use board::Answer;
 use board::Found;
@@ -31,24 +28,7 @@ fn page_frame(s: Shape, words: &[u64], page: u64) -> Frame
     Frame::Stop(2)
 }
 
-// Writes back and drops the page's lines, and frees its frame.
-fn unmap_page(
-    s: Shape,
-    words: &mut [u64],
-    records: &mut [u64],
-    cache: &[u8],
-    memory: &mut [u8],
-    page: u64,
-    frame: usize,
-)
-    requires { ⌜ Sized s (now records) (now cache) (now memory) × (frame < length (now words)) ⌝ }
-    ensures { λ _. ⌜ pages (now (words .exit)) (now (records .exit)) (now (cache .entry)) (now (memory .exit)) ≡ unmapped s page frame (pages (now (words .entry)) (now (records .entry)) (now (cache .entry)) (now (memory .entry))) ⌝ }
-{
-    visits::visit_all(s, records, cache, memory, Visit::Unmap(page));
-    words[frame] = 0;
-}
-
-// Unmaps a page.
+// Unmaps a page: writes back and drops its lines, and frees its frame.
 pub fn unmap(
     s: Shape,
     slots: &[u32],
@@ -71,7 +51,8 @@ pub fn unmap(
         match page_frame(s, words, page) {
             Frame::Stop(n) => numbered(n),
             Frame::On(f) => {
-                unmap_page(s, words, records, cache, memory, page, f);
+                visits::visit_all(s, records, cache, memory, Visit::Unmap(page));
+                words[f] = 0;
                 numbered(0)
             }
         }
@@ -80,25 +61,7 @@ pub fn unmap(
     }
 }
 
-// Gives a page and its lines a permission.
-fn protect_page(
-    s: Shape,
-    words: &mut [u64],
-    records: &mut [u64],
-    cache: &[u8],
-    memory: &mut [u8],
-    page: u64,
-    frame: usize,
-    write: bool,
-)
-    requires { ⌜ Sized s (now records) (now cache) (now memory) × (frame < length (now words)) × (page < 2 ^ 32) ⌝ }
-    ensures { λ _. ⌜ pages (now (words .exit)) (now (records .exit)) (now (cache .entry)) (now (memory .exit)) ≡ protected s page frame write (pages (now (words .entry)) (now (records .entry)) (now (cache .entry)) (now (memory .entry))) ⌝ }
-{
-    visits::visit_all(s, records, cache, memory, Visit::Protect(page, write));
-    words[frame] = pages::frame_word(page, write);
-}
-
-// Changes a page's write bit.
+// Changes a page's write bit, and that of its lines.
 pub fn protect(
     s: Shape,
     slots: &[u32],
@@ -122,7 +85,8 @@ pub fn protect(
         match page_frame(s, words, page) {
             Frame::Stop(n) => numbered(n),
             Frame::On(f) => {
-                protect_page(s, words, records, cache, memory, page, f, write);
+                visits::visit_all(s, records, cache, memory, Visit::Protect(page, write));
+                words[f] = pages::frame_word(page, write);
                 numbered(0)
             }
         }

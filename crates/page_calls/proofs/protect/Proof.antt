@@ -1,4 +1,5 @@
--- `protect` goes by its page's frame.
+-- `protect` goes by its page's frame, visits the lines and sets the word.
+use native.Mathlib.Omega.{arith}
 use Rattle.machine.specs.Calls.{protect}
 use Rattle.machine.proofs.Fits.{fit-sized, unfit}
 use Rattle.page_calls.proofs.Pages.{frame-inside, frame-page, protect-stop, protect-done}
@@ -11,9 +12,15 @@ unfolding protect
 protect-spec =
     tie.close (tie.spec
     (search needs) (search needs) (search needs) (search needs) (search needs)
-    (λ c κs. (search (needs, fit-sized), search (needs, frame-inside), search (needs, frame-page)))
+    (λ c κs. search (needs, fit-sized))
+    (λ c κs. search (needs, frame-page))
+    (λ c. search (needs, frame-inside))
+    (λ c. let d = c .before .before .before .before .before .before .before .before .before in omega (arith, frame-inside _ _ _ _ _ (d .before .before .page-frame .ensures) (d .f .given .1)))
     (search needs) (search needs) (search needs)
     (λ c tag. search (needs, protect-stop))
     (search needs) (search needs) (search needs)
-    (λ c tag. search (needs, protect-done))
+    (λ c tag.
+    let d = c .before .before .before .before .before .before .before .before .before .before in
+    protect-done _ _ _ _ _ _ tag _ (d .before .before .before .before .before .fits2 .ensures) (d .before .before .before .before .if1 .taken) _ _ _ (d .before .before .page-frame .ensures) _ _ _ _ _ (d .f .given .1)
+    (c .before .before .before .before .before .before .visit-all .ensures) (c .before .frame-word .ensures) (c .numbered2 .ensures))
     (λ c tag. search (needs, unfit)))
