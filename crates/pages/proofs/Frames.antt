@@ -37,6 +37,17 @@ module _ (ws : List ℕ) (f page : ℕ) where
   unfolding lowestFrom
   low-end h = rw drop-of-length-le
 
+-- where four words stand from f up, each of them is one of the words
+module _ (f n : ℕ) (h : f ≤ n) (four : 4 ≤ n - f) where
+  pub four-first : f < n
+  four-first = omega arith
+
+  pub four-next : (k : ℕ) → k < 4 → f + k < n
+  four-next k low = omega arith
+
+  pub four-all : f + 4 ≤ n
+  four-all = omega arith
+
 module _ (ws : List ℕ) (page : ℕ) where
   -- a word that names another page is passed
   step : (g k : ℕ) → k ≡ g + 1 → g < length ws → (getD ws g 0 / 4 ≡ page → ⊥) → lowestFrom (drop g ws) g page ≡ lowestFrom (drop k ws) k page

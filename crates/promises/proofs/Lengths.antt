@@ -1,5 +1,5 @@
 -- Every call keeps the lengths of the lists, so a board that fits still fits.
--- Stands on the length laws of `lines`, Steps (a write-back) and Sweeps (the visits).
+-- Stands on the length laws of `line_bytes` and `lines`, Steps (a write-back) and Sweeps (the visits).
 use Prim.Native.Nat.{ℕ}
 use mathlib.Core.Path.{_≡_, _∙_, refl, ap}
 use mathlib.Core.Bool.{Bool, true}

@@ -1,5 +1,5 @@
 -- Demand 2's place: an access changes no record and no cache line but at its own place, on any board.
--- Stands on Bytes (lines written elsewhere) and the laws of `lines` and `machine`.
+-- Stands on Bytes (lines written elsewhere) and the laws of `lines`, `reach` and `machine`.
 use Prim.Native.Nat.{ℕ, _+_, _%_, _≤_}
 use mathlib.Core.Path.{_≡_, _∙_, refl, sym}
 use mathlib.Core.Bool.{Bool}

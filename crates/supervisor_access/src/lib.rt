@@ -13,7 +13,8 @@ use board::Shape;
 use board::numbered;
 use stores::Access;
 
-// The same of a supervisor access: a refusal's number, the line's address, or the address in memory.
+// What is decided of a supervisor access before a line is touched: a refusal's number, the line's address, or the address in
+// memory.
 pub enum Plan {
     Stop(u32),
     Line(Global),

@@ -26,12 +26,12 @@ use Rattle.machine.specs.Refusals.{byTable, alignedTo, isMapped}
 use Rattle.machine.specs.Accesses.{performedOn, accessedBy, accessed, userTable, userAccess}
 use Rattle.machine.specs.Calls as calls
 use Rattle.machine.specs.Calls.{mapPage, mapped}
 use Rattle.promises.specs.Runs.{attach, map, Call, user, supervisor, supervise, step, after, Reply, reply, replies}
 use Rattle.promises.specs.Demand3.{wordHolds, wordWritesTo, holds, holdsForWriting, someSlot, atSomeMoment, everWrites, withoutOthers, repliesTo}
-use Rattle.promises.specs.Examples.{shape, start, load, save, runA, runB, runC, runD, answers, gets, Example1, Example2, Example3, Broken3}
+use Rattle.example_runs.specs.Examples.{shape, start, load, save, runA, runB, runC, runD, answers, gets, Example1, Example2, Example3, Broken3}
 use Rattle.board.proofs.Bools.{clash, or-left, or-right}
 use Rattle.promises.proofs.Soundness.{fresh-zeros}
 use Rattle.promises.proofs.Demand2.{demand2}
 
 -- a call on the board
 record Does (b : Board) (k : Call) (a : Answer) (c : Board) : Type 0 where
