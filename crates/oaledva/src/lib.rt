@@ -311,7 +311,7 @@ pub extern "C" fn oaledva_load_and_map(
         set: *set != 0,
         name: *name,
     };
-    let x = tag_calls::load_and_map(s, slots, words, records, cache, memory, tag, line);
+    let x = load_call::load_and_map(s, slots, words, records, cache, memory, tag, line);
     *set = crossing::word_after(*set, x.tag.set);
     *name = x.tag.name;
     crossing::packed_answer(x.answer)

@@ -1,2 +1,2 @@
--- The parts that the walks of this crate share.
+-- What the walks of this crate and of `tag_bridges` share.
 pub mod Shared

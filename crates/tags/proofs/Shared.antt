@@ -1,4 +1,4 @@
--- What the walks of this crate share. It says nothing of a call.
+-- What the walks of this crate and of `tag_bridges` share. It says nothing of a call.
 --     five             five formulas in front of another: the tokens of the five buffers, or what the five own
 --     takes, puts      what stands behind the five is taken out, and put back
 --     begins, begins-by-value      the first steps of a walk

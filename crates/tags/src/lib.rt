@@ -1,13 +1,11 @@
 // The pending tag as a small record changed in place: tag, load-and-map and drop tag take a mutable reference to it.
 // Each reads the record, calls the covered call by value, writes the tag back and gives the answer.
-// Above each stands a bridge by value: whoever calls one needs no walk.
 ghost use mathlib.Core.Path.{_≡_};
 ghost use Rattle.machine.specs.Boards.{board as boardOf, outcome};
 ghost use Rattle.machine.specs.Calls.{tag as tagCall, loadAndMap as loadAndMapCall, dropTag as dropTagCall};
 use board::Answer;
 use board::Pending;
 use board::Shape;
-use tag_calls::Tagged;
 
 // Forgets the pending name.
 pub fn drop_tag(
@@ -24,26 +22,6 @@ pub fn drop_tag(
     let t = tag_calls::drop_tag(s, slots, words, records, cache, memory, *pending);
     *pending = t.tag;
     t.answer
-}
-
-// Drop tag by value, through the reference.
-pub fn drop_tag_through(
-    s: Shape,
-    slots: &[u32],
-    words: &[u64],
-    records: &[u64],
-    cache: &[u8],
-    memory: &[u8],
-    pending: Pending,
-) -> Tagged
-    ensures { λ r. ⌜ outcome (r .answer) (boardOf (now (slots .entry)) (now (words .entry)) (now (records .entry)) (now (cache .entry)) (now (memory .entry)) (r .tag)) ≡ dropTagCall s (boardOf (now (slots .entry)) (now (words .entry)) (now (records .entry)) (now (cache .entry)) (now (memory .entry)) pending) ⌝ }
-{
-    let mut q = pending;
-    let answer = drop_tag(s, slots, words, records, cache, memory, &mut q);
-    Tagged {
-        answer: answer,
-        tag: q,
-    }
 }
 
 // Remembers a line name.
@@ -64,27 +42,6 @@ pub fn tag(
     t.answer
 }
 
-// Tag by value, through the reference.
-pub fn tag_through(
-    s: Shape,
-    slots: &[u32],
-    words: &[u64],
-    records: &[u64],
-    cache: &[u8],
-    memory: &[u8],
-    pending: Pending,
-    name: u64,
-) -> Tagged
-    ensures { λ r. ⌜ outcome (r .answer) (boardOf (now (slots .entry)) (now (words .entry)) (now (records .entry)) (now (cache .entry)) (now (memory .entry)) (r .tag)) ≡ tagCall s (boardOf (now (slots .entry)) (now (words .entry)) (now (records .entry)) (now (cache .entry)) (now (memory .entry)) pending) name ⌝ }
-{
-    let mut q = pending;
-    let answer = tag(s, slots, words, records, cache, memory, &mut q, name);
-    Tagged {
-        answer: answer,
-        tag: q,
-    }
-}
-
 // Loads the line of the pending name, and forgets the name.
 pub fn load_and_map(
     s: Shape,
@@ -98,28 +55,7 @@ pub fn load_and_map(
 ) -> Answer
     ensures { λ r. ⌜ outcome r (boardOf (now (slots .entry)) (now (words .entry)) (now (records .exit)) (now (cache .exit)) (now (memory .exit)) (now (pending .exit))) ≡ loadAndMapCall s (boardOf (now (slots .entry)) (now (words .entry)) (now (records .entry)) (now (cache .entry)) (now (memory .entry)) (now (pending .entry))) line ⌝ }
 {
-    let t = tag_calls::load_and_map(s, slots, words, records, cache, memory, *pending, line);
+    let t = load_call::load_and_map(s, slots, words, records, cache, memory, *pending, line);
     *pending = t.tag;
     t.answer
-}
-
-// Load-and-map by value, through the reference.
-pub fn load_and_map_through(
-    s: Shape,
-    slots: &[u32],
-    words: &[u64],
-    records: &mut [u64],
-    cache: &mut [u8],
-    memory: &mut [u8],
-    pending: Pending,
-    line: usize,
-) -> Tagged
-    ensures { λ r. ⌜ outcome (r .answer) (boardOf (now (slots .entry)) (now (words .entry)) (now (records .exit)) (now (cache .exit)) (now (memory .exit)) (r .tag)) ≡ loadAndMapCall s (boardOf (now (slots .entry)) (now (words .entry)) (now (records .entry)) (now (cache .entry)) (now (memory .entry)) pending) line ⌝ }
-{
-    let mut q = pending;
-    let answer = load_and_map(s, slots, words, records, cache, memory, &mut q, line);
-    Tagged {
-        answer: answer,
-        tag: q,
-    }
 }

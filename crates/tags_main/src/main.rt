@@ -68,7 +68,7 @@ fn answer(
     c: Asked,
 ) -> Tagged {
     match c {
-        Asked::Tag(name) => tags::tag_through(
+        Asked::Tag(name) => tag_bridges::tag_through(
             shape(4),
             slots,
             words,
@@ -78,7 +78,7 @@ fn answer(
             pending,
             name,
         ),
-        Asked::Load(line) => tags::load_and_map_through(
+        Asked::Load(line) => tag_bridges::load_and_map_through(
             shape(4),
             slots,
             words,
@@ -105,7 +105,7 @@ fn answer(
                 tag: pending,
             }
         }
-        Asked::Drop(frames) => tags::drop_tag_through(
+        Asked::Drop(frames) => tag_bridges::drop_tag_through(
             shape(frames),
             slots,
             words,

@@ -1,5 +1,5 @@
--- `tags::load_and_map` meets its contract: a walk of its MIR, by hand. The borrow is opened, the record is copied out, `tag_calls::load_and_map` is called with the same slices (the three that change are passed on for good), the new record is stored, and the borrow is closed at it.
--- All that the proof knows of `tag_calls::load_and_map` is that it meets its contract.
+-- `tags::load_and_map` meets its contract: a walk of its MIR, by hand. The borrow is opened, the record is copied out, `load_call::load_and_map` is called with the same slices (the three that change are passed on for good), the new record is stored, and the borrow is closed at it.
+-- All that the proof knows of `load_call::load_and_map` is that it meets its contract.
 -- Assumes nothing.
 use mathlib.Core.Path.{_≡_, refl, ap}
 use Prim.Native.Nat.{ℕ, _<_, _^_}
@@ -54,10 +54,10 @@ use Rattle.board.proofs.Shape as S
 use Rattle.board.proofs.Shape.Laws as S′
 use Rattle.tag_calls.proofs.Tagged as G
 use Rattle.tag_calls.proofs.Tagged.Laws as G′
-use Rattle.tag_calls.proofs.load_and_map as callee
-use Rattle.tag_calls.proofs.load_and_map.Symbol as callee-def
-use Rattle.tag_calls.proofs.load_and_map.Symbol.{name as #tag-calls·load-and-map}
-use Rattle.tag_calls.proofs.load_and_map.Met as callee-thm
+use Rattle.load_call.proofs.load_and_map as callee
+use Rattle.load_call.proofs.load_and_map.Symbol as callee-def
+use Rattle.load_call.proofs.load_and_map.Symbol.{name as #load-call·load-and-map}
+use Rattle.load_call.proofs.load_and_map.Met as callee-thm
 use Rattle.tags.proofs.Shared.{five, takes, puts, begins, left-to, vals, avals, svals, buffer, told, answer-is, tag-is}
 use Rattle.tags.proofs.load_and_map.Key.{name as #tags·load-and-map}
 use Rattle.tags.proofs.load_and_map as fun
@@ -127,7 +127,7 @@ module _ {M : Type 1} (𝓤 : URA M) (H : Heap 𝓤) (A : Atoms 𝓤) (W : Given
       owned ! S.the-row (Is S.the-row) (LL.makes S.the-type S′.the-plain 𝓤 H A) s _ is-s $ fjoin ! $ move ! (1 ∷ 0 ∷ []) $ join ! $ frame ! $ done !
 
   module _ (g₀ : Room u32 (length (slots .now))) (g₁ : Room u64 (length (words .now))) (g₂ : Room u64 (length (records .now))) (g₃ : Room u8 (length (cache .now))) (g₄ : Room u8 (length (memory .now)))
-      (C : Calls 𝓤 H) (Λ : Loops 𝓤 H) (fm : FmC 𝓤 H (W .laws) C) (known : Triple 𝓤 (C #tag-calls·load-and-map) (Callee 𝓤 H A at-mem run)) where
+      (C : Calls 𝓤 H) (Λ : Loops 𝓤 H) (fm : FmC 𝓤 H (W .laws) C) (known : Triple 𝓤 (C #load-call·load-and-map) (Callee 𝓤 H A at-mem run)) where
     abbrev values : List Val
     values = only (svals s) ∷ buffer slots ∷ buffer words ∷ buffer records ∷ buffer cache ∷ buffer memory ∷ vptr b o ∷ vint w64 n ∷ []
 
@@ -172,7 +172,7 @@ module _ {M : Type 1} (𝓤 : URA M) (H : Heap 𝓤) (A : Atoms 𝓤) (W : Given
         by ! (exits r (ws .1 .1 .1 .0) (ws .1 .1 .1 .1 .0) (ws .1 .1 .1 .1 .1 .0) (answer-is r (told r v is₀)) e)))))))))))))))))))))))))
 
 module _ {M : Type 1} (𝓤 : URA M) (H : Heap 𝓤) (A : Atoms 𝓤) (W : Given 𝓤 H A) (mem : Memory → SProp 𝓤) (run : Routine → Fun 𝓤) where
-  fun-walks : (C : Calls 𝓤 H) (Λ : Loops 𝓤 H) → FmC 𝓤 H (W .laws) C → Triple 𝓤 (C #tag-calls·load-and-map) (Callee 𝓤 H A mem run) → Walks 𝓤 H A fun.ended stayed (WpFn 𝓤 H C Λ code.function) (fun.clauses 𝓤 H A mem run)
+  fun-walks : (C : Calls 𝓤 H) (Λ : Loops 𝓤 H) → FmC 𝓤 H (W .laws) C → Triple 𝓤 (C #load-call·load-and-map) (Callee 𝓤 H A mem run) → Walks 𝓤 H A fun.ended stayed (WpFn 𝓤 H C Λ code.function) (fun.clauses 𝓤 H A mem run)
   fun-walks C Λ fm known = walked 𝓤 H A fun.ended stayed (fun.clauses 𝓤 H A mem run) (WpFn 𝓤 H C Λ code.function)
       (λ κs. (svals, (slice-vals, (slice-vals, (slice-vals, (slice-vals, (slice-vals, (ptr-vals, (uint-vals w64, tt)))))))))
       (λ κs. (
@@ -198,7 +198,7 @@ module _ {M : Type 1} (𝓤 : URA M) (H : Heap 𝓤) (A : Atoms 𝓤) (W : Given
       (a .0) (a .1 .0) (a .1 .1 .0) (a .1 .1 .1 .0) (a .1 .1 .1 .1 .0) (a .1 .1 .1 .1 .1 .0) (a .1 .1 .1 .1 .1 .1 .0 .ptr .0) (a .1 .1 .1 .1 .1 .1 .0 .ptr .1) (a .1 .1 .1 .1 .1 .1 .0 .name) (a .1 .1 .1 .1 .1 .1 .0 .now) (a .1 .1 .1 .1 .1 .1 .1 .0) (are .0) (are .1 .1 .1 .1 .1 .1 .1 .0 .1)
       (are .1 .0 .0 .1) (are .1 .1 .0 .0 .1) (are .1 .1 .1 .0 .0 .1) (are .1 .1 .1 .1 .0 .0 .1) (are .1 .1 .1 .1 .1 .0 .0 .1) C Λ fm known))
 
-fun-meets : {M : Type 1} (𝓤 : URA M) (H : Heap 𝓤) (A : Atoms 𝓤) → Given 𝓤 H A → (mem : Memory → SProp 𝓤) (run : Routine → Fun 𝓤) (𝓣 : Tables 𝓤 H) → Triple 𝓤 (𝓣 .C #tag-calls·load-and-map) (Callee 𝓤 H A mem run)
+fun-meets : {M : Type 1} (𝓤 : URA M) (H : Heap 𝓤) (A : Atoms 𝓤) → Given 𝓤 H A → (mem : Memory → SProp 𝓤) (run : Routine → Fun 𝓤) (𝓣 : Tables 𝓤 H) → Triple 𝓤 (𝓣 .C #load-call·load-and-map) (Callee 𝓤 H A mem run)
     → Meets 𝓤 H A fun.signature (WpFn 𝓤 H (𝓣 .C) (𝓣 .Λ) code.function) (fun.spec 𝓤 H A mem run)
 fun-meets 𝓤 H A W mem run 𝓣 known =
     walk-meets 𝓤 H A fun.ended stayed W
@@ -211,4 +211,4 @@ load-and-map-spec 𝓤 H 𝓜 𝓖 𝓡 =
     entered 𝓤 H (tripleOf 𝓤 H (𝓖 .A) fun.signature (fun.spec 𝓤 H (𝓖 .A) (𝓜 .mem) (𝓡 .run)))
     (tables 𝓤 H 𝓜 𝓡 code.env .C) (tables 𝓤 H 𝓜 𝓡 code.env .Λ) #tags·load-and-map code.function (code.unfolded 𝓤 H 𝓜 𝓡)
     (fun-meets 𝓤 H (𝓖 .A) (givenOf 𝓤 H 𝓜 𝓖) (𝓜 .mem) (𝓡 .run) (tablesOf 𝓤 H 𝓜 (tables 𝓤 H 𝓜 𝓡 code.env))
-    (cited 𝓤 H (Callee 𝓤 H (𝓖 .A) (𝓜 .mem) (𝓡 .run)) 𝓜 𝓡 code.env #tag-calls·load-and-map callee-def.routine code.calls-tag-calls·load-and-map (callee-thm.met 𝓤 H 𝓜 𝓖 𝓡)))
+    (cited 𝓤 H (Callee 𝓤 H (𝓖 .A) (𝓜 .mem) (𝓡 .run)) 𝓜 𝓡 code.env #load-call·load-and-map callee-def.routine code.calls-load-call·load-and-map (callee-thm.met 𝓤 H 𝓜 𝓖 𝓡)))

@@ -1,4 +1,4 @@
--- `tags::load_and_map_through` meets its contract: a walk of its MIR, by hand. A local that holds the record is lent for a lifetime of the call, and taken back at the last value that `load_and_map` says. The three slices that change are passed on for good.
+-- `tag_bridges::load_and_map_through` meets its contract: a walk of its MIR, by hand. A local that holds the record is lent for a lifetime of the call, and taken back at the last value that `load_and_map` says. The three slices that change are passed on for good.
 -- Assumes nothing.
 use mathlib.Core.Path.{_≡_, refl, ap}
 use Prim.Native.Nat.{ℕ, _<_, _^_}
@@ -52,15 +52,15 @@ use Rattle.board.proofs.Shape as S
 use Rattle.board.proofs.Shape.Laws as S′
 use Rattle.tag_calls.proofs.Tagged as G
 use Rattle.tag_calls.proofs.Tagged.Laws as G′
 use Rattle.tags.proofs.Shared.{five, takes, puts, begins-by-value, left-to, vals, gvals, avals, svals, buffer, both, made, told-answer, lies-in, lies-out}
 use Rattle.tags.proofs.load_and_map as callee
 use Rattle.tags.proofs.load_and_map.Symbol as callee-def
 use Rattle.tags.proofs.load_and_map.Symbol.{name as #tags·load-and-map}
 use Rattle.tags.proofs.load_and_map.Met as callee-thm
-use Rattle.tags.proofs.load_and_map_through.Key.{name as #tags·load-and-map-through}
-use Rattle.tags.proofs.load_and_map_through as fun
-use Rattle.tags.proofs.load_and_map_through.Statement as stated
-use Rattle.tags.proofs.load_and_map_through.Code as code
+use Rattle.tag_bridges.proofs.load_and_map_through.Key.{name as #tag-bridges·load-and-map-through}
+use Rattle.tag_bridges.proofs.load_and_map_through as fun
+use Rattle.tag_bridges.proofs.load_and_map_through.Statement as stated
+use Rattle.tag_bridges.proofs.load_and_map_through.Code as code
 
 abbrev stayed : Stays (fun.ended .signature .params) (fun.ended .kept)
 stayed = (left-to _ _, (left-to _ _, (left-to _ _, (left-to _ _, (left-to _ _, (left-to _ _, (left-to _ _, (left-to _ _, tt))))))))
@@ -215,6 +215,6 @@ pub load-and-map-through-spec : {M : Type 1} → stated.statement M
 unfolding code.routine tablesOf
 load-and-map-through-spec 𝓤 H 𝓜 𝓖 𝓡 =
     entered 𝓤 H (tripleOf 𝓤 H (𝓖 .A) fun.signature (fun.spec 𝓤 H (𝓖 .A) (𝓜 .mem) (𝓡 .run)))
-    (tables 𝓤 H 𝓜 𝓡 code.env .C) (tables 𝓤 H 𝓜 𝓡 code.env .Λ) #tags·load-and-map-through code.function (code.unfolded 𝓤 H 𝓜 𝓡)
+    (tables 𝓤 H 𝓜 𝓡 code.env .C) (tables 𝓤 H 𝓜 𝓡 code.env .Λ) #tag-bridges·load-and-map-through code.function (code.unfolded 𝓤 H 𝓜 𝓡)
     (fun-meets 𝓤 H (𝓖 .A) (givenOf 𝓤 H 𝓜 𝓖) (𝓜 .mem) (𝓡 .run) (tablesOf 𝓤 H 𝓜 (tables 𝓤 H 𝓜 𝓡 code.env))
     (cited 𝓤 H (Callee 𝓤 H (𝓖 .A) (𝓜 .mem) (𝓡 .run)) 𝓜 𝓡 code.env #tags·load-and-map callee-def.routine code.calls-tags·load-and-map (callee-thm.met 𝓤 H 𝓜 𝓖 𝓡)))

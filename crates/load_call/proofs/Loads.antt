@@ -22,9 +22,9 @@ use Rattle.machine.specs.Boards.{Board, board, Outcome, outcome, refused, done,
 use Rattle.machine.specs.Refusals.{byTable, isMapped}
 use Rattle.machine.specs.Calls.{foundFrame, nameWrites, loadRows, loadedBy, loaded, loadAndMap}
 use Rattle.machine.proofs.Tables.{table-map}
-use Rattle.tag_calls.specs.Checks.{loadFrame, loadCheck}
-use Rattle.tag_calls.specs.declared.Load.{Load}
-use Rattle.tag_calls.specs.declared.Load.the-variants.{Refuse, Fill}
+use Rattle.load_call.specs.Checks.{loadFrame, loadCheck}
+use Rattle.load_call.specs.declared.Load.{Load}
+use Rattle.load_call.specs.declared.Load.the-variants.{Refuse, Fill}
 use Rattle.machine.proofs.Fits.{fit-table}
 
 -- ---- numbers 8 and 13, or the permission

@@ -1,10 +1,10 @@
 -- `load_and_map` goes by its check.
 use Rattle.machine.specs.Calls.{loadAndMap}
 use Rattle.machine.proofs.Fits.{fit-sized, fit-words, fit-frames, unfit}
-use Rattle.tag_calls.proofs.Loads.{fill-line, load-refused, load-done}
+use Rattle.load_call.proofs.Loads.{fill-line, load-refused, load-done}
 use borrow.Author.Needs.{needs}
-use Rattle.tag_calls.proofs.load_and_map.Statement.{statement}
-use Rattle.tag_calls.proofs.load_and_map.Tie as tie
+use Rattle.load_call.proofs.load_and_map.Statement.{statement}
+use Rattle.load_call.proofs.load_and_map.Tie as tie
 
 pub load-and-map-spec : {M : Type 1} → statement M
 unfolding loadAndMap

@@ -1,8 +1,8 @@
 -- `load_check` asks the line and the tag, then the home.
-use Rattle.tag_calls.proofs.Loads.{check-outside, check-empty, check-home}
+use Rattle.load_call.proofs.Loads.{check-outside, check-empty, check-home}
 use borrow.Author.Needs.{needs}
-use Rattle.tag_calls.proofs.load_check.Statement.{statement}
-use Rattle.tag_calls.proofs.load_check.Tie as tie
+use Rattle.load_call.proofs.load_check.Statement.{statement}
+use Rattle.load_call.proofs.load_check.Tie as tie
 
 pub load-check-spec : {M : Type 1} → statement M
 load-check-spec =

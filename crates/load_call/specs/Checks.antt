@@ -5,8 +5,8 @@ use Rattle.board.specs.declared.Shape.{Shape}
 use Rattle.board.specs.declared.Pending.{Pending}
 use Rattle.machine.specs.Refusals.{byTable}
 use Rattle.machine.specs.Calls.{homeRows, loadRows, nameWrites}
-use Rattle.tag_calls.specs.declared.Load.{Load}
-use Rattle.tag_calls.specs.declared.Load.the-variants.{Refuse, Fill}
+use Rattle.load_call.specs.declared.Load.{Load}
+use Rattle.load_call.specs.declared.Load.the-variants.{Refuse, Fill}
 
 -- numbers 8 and 13 of load-and-map, or the page's permission
 unfoldable pub loadFrame : Shape → List ℕ → ℕ → ℕ → Load

@@ -1,10 +1,10 @@
 -- `load_frame` asks the rows on the home in their order; the frame is inside memory.
 use native.Mathlib.Omega.{arith}
 use Rattle.pages.proofs.Frames.{mapped-inside}
-use Rattle.tag_calls.proofs.Loads.{home-none, home-other, home-fill}
+use Rattle.load_call.proofs.Loads.{home-none, home-other, home-fill}
 use borrow.Author.Needs.{needs}
-use Rattle.tag_calls.proofs.load_frame.Statement.{statement}
-use Rattle.tag_calls.proofs.load_frame.Tie as tie
+use Rattle.load_call.proofs.load_frame.Statement.{statement}
+use Rattle.load_call.proofs.load_frame.Tie as tie
 
 pub load-frame-spec : {M : Type 1} → statement M
 load-frame-spec =

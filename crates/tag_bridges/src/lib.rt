@@ -1,0 +1,70 @@
+// The calls on the tag behind a reference, by value: each puts the tag into a local, calls through a reference to it, and gives
+// back what stands there. Whoever calls one needs no walk.
+ghost use mathlib.Core.Path.{_≡_};
+ghost use Rattle.machine.specs.Boards.{board as boardOf, outcome};
+ghost use Rattle.machine.specs.Calls.{tag as tagCall, loadAndMap as loadAndMapCall, dropTag as dropTagCall};
+use board::Pending;
+use board::Shape;
+use tag_calls::Tagged;
+
+// Drop tag by value, through the reference.
+pub fn drop_tag_through(
+    s: Shape,
+    slots: &[u32],
+    words: &[u64],
+    records: &[u64],
+    cache: &[u8],
+    memory: &[u8],
+    pending: Pending,
+) -> Tagged
+    ensures { λ r. ⌜ outcome (r .answer) (boardOf (now (slots .entry)) (now (words .entry)) (now (records .entry)) (now (cache .entry)) (now (memory .entry)) (r .tag)) ≡ dropTagCall s (boardOf (now (slots .entry)) (now (words .entry)) (now (records .entry)) (now (cache .entry)) (now (memory .entry)) pending) ⌝ }
+{
+    let mut q = pending;
+    let answer = tags::drop_tag(s, slots, words, records, cache, memory, &mut q);
+    Tagged {
+        answer: answer,
+        tag: q,
+    }
+}
+
+// Tag by value, through the reference.
+pub fn tag_through(
+    s: Shape,
+    slots: &[u32],
+    words: &[u64],
+    records: &[u64],
+    cache: &[u8],
+    memory: &[u8],
+    pending: Pending,
+    name: u64,
+) -> Tagged
+    ensures { λ r. ⌜ outcome (r .answer) (boardOf (now (slots .entry)) (now (words .entry)) (now (records .entry)) (now (cache .entry)) (now (memory .entry)) (r .tag)) ≡ tagCall s (boardOf (now (slots .entry)) (now (words .entry)) (now (records .entry)) (now (cache .entry)) (now (memory .entry)) pending) name ⌝ }
+{
+    let mut q = pending;
+    let answer = tags::tag(s, slots, words, records, cache, memory, &mut q, name);
+    Tagged {
+        answer: answer,
+        tag: q,
+    }
+}
+
+// Load-and-map by value, through the reference.
+pub fn load_and_map_through(
+    s: Shape,
+    slots: &[u32],
+    words: &[u64],
+    records: &mut [u64],
+    cache: &mut [u8],
+    memory: &mut [u8],
+    pending: Pending,
+    line: usize,
+) -> Tagged
+    ensures { λ r. ⌜ outcome (r .answer) (boardOf (now (slots .entry)) (now (words .entry)) (now (records .exit)) (now (cache .exit)) (now (memory .exit)) (r .tag)) ≡ loadAndMapCall s (boardOf (now (slots .entry)) (now (words .entry)) (now (records .entry)) (now (cache .entry)) (now (memory .entry)) pending) line ⌝ }
+{
+    let mut q = pending;
+    let answer = tags::load_and_map(s, slots, words, records, cache, memory, &mut q, line);
+    Tagged {
+        answer: answer,
+        tag: q,
+    }
+}
