@@ -1,3 +1,4 @@
+// 01, "Addresses": effective, global and physical addresses, what they reach, and page table entries.
 ghost use mathlib.Core.Path.{_≡_};
 ghost use Prim.Native.Nat.{_+_, _<_, _^_};
 ghost use Rattle.address.specs.Addresses.{slotOf, globalOf, pageOf, nameOf, physicalLineOf, frameOfPhysical, regionOf, physicalOf, entryOf, isKernels, attachable, ordinaryPage};

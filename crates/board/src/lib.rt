@@ -1,3 +1,4 @@
+// 01, "The board": F, U, P and L, their limits and the lengths of the buffers (number 1), and what calls and searches give.
 ghost use mathlib.Core.Path.{_≡_};
 ghost use Prim.Native.Nat.{_≤_};
 ghost use Rattle.board.specs.Answers.{answer};

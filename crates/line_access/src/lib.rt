@@ -1,3 +1,4 @@
+// What user and supervisor accesses share: the alignment, an access to a line, hit or miss, and one past the cache.
 ghost use mathlib.Core.Path.{_≡_};
 ghost use Prim.Native.Nat.{_+_, _*_, _%_, _≤_};
 ghost use lib.ListN.{length};

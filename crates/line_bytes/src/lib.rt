@@ -1,3 +1,4 @@
+// Bytes: numbers in them, the most significant byte first, lines of sixteen, and frames filled with zeros.
 ghost use mathlib.Core.Path.{_≡_};
 ghost use Prim.Native.Nat.{_+_, _*_, _≤_, _<_};
 ghost use lib.ListN.{length};

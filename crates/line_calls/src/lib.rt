@@ -1,3 +1,4 @@
+// 01, "Calls": flush all, and look with its number.
 ghost use mathlib.Core.Path.{_≡_};
 ghost use Prim.Native.Nat.{_*_, _<_};
 ghost use Rattle.address.specs.Layout.{pageLines};

@@ -1,3 +1,4 @@
+// 01, "The board": a line's record, its place, and the record that holds a name or a physical line.
 ghost use mathlib.Core.Path.{_≡_};
 ghost use Prim.Native.Nat.{_+_, _*_, _%_, _≤_, _<_, _^_};
 ghost use lib.Count.{ones};

@@ -1,3 +1,4 @@
+// 01, "Calls": load-and-map.
 ghost use mathlib.Core.Path.{_≡_};
 ghost use Prim.Native.Nat.{_*_, _≤_, _<_};
 ghost use lib.ListN.{length};

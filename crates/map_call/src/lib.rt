@@ -1,3 +1,4 @@
+// 01, "Calls": map.
 ghost use mathlib.Core.Path.{_≡_};
 ghost use lib.ListN.{length};
 ghost use Rattle.board.specs.declared.Pending.{Pending};

@@ -1,3 +1,4 @@
+// 01, "Calls": unmap and protect.
 ghost use mathlib.Core.Path.{_≡_};
 ghost use Rattle.board.specs.declared.Pending.{Pending};
 ghost use Rattle.machine.specs.Boards.{board as boardOf, outcome};

@@ -1,3 +1,4 @@
+// 01, "The board": the frame words, and the page map that they make.
 ghost use mathlib.Core.Path.{_≡_};
 ghost use mathlib.Core.Bool.{true};
 ghost use Prim.Native.Nat.{ℕ, _+_, _/_, _≤_, _<_, _^_};

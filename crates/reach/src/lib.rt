@@ -1,3 +1,4 @@
+// How a line is reached: by the record that holds it, else where its name maps to.
 ghost use mathlib.Core.Path.{_≡_};
 ghost use Prim.Native.Nat.{_*_, _≤_};
 ghost use lib.Count.{ones};

@@ -1,3 +1,4 @@
+// 01, "Calls": attach and detach.
 ghost use mathlib.Core.Path.{_≡_};
 ghost use mathlib.Core.Bool.{_&&_};
 ghost use Rattle.address.specs.Addresses.{attachable};

@@ -1,3 +1,4 @@
+// 01, "The board": the slot words of the processes. One process's slots go by value into a change and come back.
 ghost use mathlib.Core.Path.{_≡_};
 ghost use Prim.Native.Nat.{_≤_, _<_, _^_};
 ghost use lib.ListN.{length, set};

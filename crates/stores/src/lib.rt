@@ -1,3 +1,4 @@
+// The cache and memory as one: a line written back, filled, loaded from and stored to.
 ghost use mathlib.Core.Path.{_≡_};
 ghost use Prim.Native.Nat.{_+_, _*_, _≤_, _<_};
 ghost use lib.ListN.{length};

@@ -1,3 +1,4 @@
+// 01, "Calls": a supervisor's load or store, by global address.
 ghost use mathlib.Core.Path.{_≡_};
 ghost use lib.ListN.{length};
 ghost use Rattle.machine.specs.Boards.{board as boardOf, outcome};

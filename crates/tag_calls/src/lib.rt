@@ -1,3 +1,4 @@
+// 01, "Calls": tag and drop tag, and what the three calls on the tag give.
 ghost use mathlib.Core.Path.{_≡_};
 ghost use Rattle.board.specs.Answers.{answer};
 ghost use Rattle.machine.specs.Boards.{board as boardOf, outcome, noTag};

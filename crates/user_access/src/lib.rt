@@ -1,3 +1,4 @@
+// 01, "Calls": a user's load or store, by effective address.
 ghost use mathlib.Core.Path.{_≡_};
 ghost use Prim.Native.Nat.{_*_, _≤_};
 ghost use lib.ListN.{length};

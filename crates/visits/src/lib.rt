@@ -1,3 +1,4 @@
+// What map, unmap, protect and flush all do to the lines, record by record.
 ghost use mathlib.Core.Path.{_≡_};
 ghost use Prim.Native.Nat.{_<_};
 ghost use lib.Dec.{eqb};
