@@ -65,10 +65,21 @@ fn protect(title: &[u8], a: Line, b: Line) {
     write_lines(records::protect_two(shape(2), [a, b], PAGE, false));
 }
 
-// Flush all, on a board of so many lines.
-fn flush(title: &[u8], lines: usize, a: Line, b: Line, cache: &[u8], memory: &mut [u8]) {
+// Flush all, on a board of so many lines, and two bytes of memory after it.
+fn flush(
+    title: &[u8],
+    lines: usize,
+    a: Line,
+    b: Line,
+    cache: &[u8],
+    memory: &mut [u8],
+    first: usize,
+    second: usize,
+) {
     io::write_all(STDOUT_FILENO, title);
     write_lines(records::flush_two(shape(lines), [a, b], cache, memory));
+    write_byte(memory, first);
+    write_byte(memory, second);
 }
 
 fn protects() {
@@ -86,8 +97,9 @@ fn protects() {
     );
 }
 
-// A held changed line is written back, a misplaced one stays.
-fn flush_one(cache: &[u8], memory: &mut [u8]) {
+// Flush all of changed lines.
+fn flush_changed(cache: &[u8], memory: &mut [u8]) {
+    // a held changed line is written back, a misplaced one stays
     flush(
         b"flush all\n",
         2,
@@ -95,13 +107,10 @@ fn flush_one(cache: &[u8], memory: &mut [u8]) {
         line(true, NAME, 5, true),
         cache,
         memory,
+        48,
+        80,
     );
-    write_byte(memory, 48);
-    write_byte(memory, 80);
-}
-
-// Two lines of one physical line: the higher place is written last.
-fn flush_both(cache: &[u8], memory: &mut [u8]) {
+    // two lines of one physical line: the higher place is written last
     flush(
         b"flush all, one physical line\n",
         2,
@@ -109,13 +118,14 @@ fn flush_both(cache: &[u8], memory: &mut [u8]) {
         line(true, NAME + 1, 3, true),
         cache,
         memory,
+        48,
+        49,
     );
-    write_byte(memory, 48);
-    write_byte(memory, 49);
 }
 
-// A clean line is dropped, a line that is not valid stays; neither is written.
-fn flush_clean(cache: &[u8], memory: &mut [u8]) {
+// Flush all that writes nothing.
+fn flush_nothing(cache: &[u8], memory: &mut [u8]) {
+    // a clean line is dropped, a line that is not valid stays; neither is written
     flush(
         b"flush all, clean\n",
         2,
@@ -123,12 +133,10 @@ fn flush_clean(cache: &[u8], memory: &mut [u8]) {
         line(false, NAME + 1, 6, true),
         cache,
         memory,
+        96,
+        97,
     );
-    write_byte(memory, 96);
-}
-
-// Two lines on a board of one line: refused.
-fn flush_refused(cache: &[u8], memory: &mut [u8]) {
+    // two lines on a board of one line: refused
     flush(
         b"flush all, refused\n",
         1,
@@ -136,15 +144,9 @@ fn flush_refused(cache: &[u8], memory: &mut [u8]) {
         line(true, NAME + 1, 7, true),
         cache,
         memory,
+        112,
+        113,
     );
-    write_byte(memory, 112);
-}
-
-fn flushes(cache: &[u8], memory: &mut [u8]) {
-    flush_one(cache, memory);
-    flush_both(cache, memory);
-    flush_clean(cache, memory);
-    flush_refused(cache, memory);
 }
 
 // Cache line 0 is all 5, line 1 begins with 9.
@@ -154,5 +156,6 @@ fn main() {
     let mut memory: [u8; 4096] = [0; 4096];
     io::write_all(STDOUT_FILENO, b"valid name physical changed write\n");
     protects();
-    flushes(&cache, &mut memory);
+    flush_changed(&cache, &mut memory);
+    flush_nothing(&cache, &mut memory);
 }

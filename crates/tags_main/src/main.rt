@@ -144,8 +144,15 @@ fn wide(x: u8) -> u64 {
     x as u64
 }
 
-// A fresh board, with cache bytes and memory that are not zero, and the calls on it. At the end, the record and a cached
-// byte of the line that was loaded, and a byte of the place beside it.
+// The record and a cached byte of the line that was loaded, and a byte of the place beside it.
+fn write_end(records: &[u64; 4], cache: &[u8; 32]) {
+    write_line(b"name ", records[0]);
+    write_line(b"word ", records[1]);
+    write_line(b"loaded ", wide(cache[0]));
+    write_line(b"beside ", wide(cache[16]));
+}
+
+// A fresh board, with cache bytes and memory that are not zero, the calls on it, and what stands there at the end.
 fn main() {
     let slots: [u32; 1024] = [0; 1024];
     let mut words: [u64; 4] = [0; 4];
@@ -170,8 +177,5 @@ fn main() {
         write_row(number, t);
         pending = t.tag;
     }
-    write_line(b"name ", records[0]);
-    write_line(b"word ", records[1]);
-    write_line(b"loaded ", wide(cache[0]));
-    write_line(b"beside ", wide(cache[16]));
+    write_end(&records, &cache);
 }

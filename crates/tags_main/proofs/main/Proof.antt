@@ -7,29 +7,15 @@ use Rattle.tags_main.proofs.main.Statement.{statement}
 use Rattle.tags_main.proofs.main.Tie as tie
 
 abbrev Inv-loop : tie.InvT-loop
-Inv-loop slots words₀ records₀ cache₀ memory₀ pending₀ number₀ t10 t11 t12 t13 words records cache memory pending number =
+Inv-loop slots words₀ records₀ cache₀ memory₀ pending₀ number₀ words records cache memory pending number =
     (length words ≡ 4) × (length records ≡ 4) × (length cache ≡ 32) × (length memory ≡ 16384)
 
 abbrev μ-loop : tie.MeasureT-loop
-μ-loop slots words₀ records₀ cache₀ memory₀ pending₀ number₀ t10 t11 t12 t13 words records cache memory pending number = 14 - number
+μ-loop slots words₀ records₀ cache₀ memory₀ pending₀ number₀ words records cache memory pending number = 14 - number
 
 pub main-spec : {M : Type 1} → statement M
 main-spec =
     tie.close (tie.spec
-    Inv-loop μ-loop (search needs)
-    (λ c κs. search needs)
-    (search needs) (search needs) (search needs) (search needs) (search needs) (search needs)
-    (λ c κs. search needs)
-    (λ c κs. search needs)
-    (λ c κs. search needs)
-    (search needs) (search needs) (search needs) (search needs) (search needs)
-    (λ c κs. search needs)
-    (search needs) (search needs)
-    (λ c κs. search needs)
-    (search needs) (search needs)
-    (λ c κs. search needs)
-    (λ c κs. search needs)
-    (search needs) (search needs)
-    (λ c κs. search needs)
-    (λ c κs. search needs)
-    (search needs))
+    Inv-loop μ-loop (search needs) (search needs) (search needs) (search needs) (search needs) (search needs) (search needs)
+    (search needs) (search needs) (search needs) (search needs) (search needs) (search needs) (search needs)
+    (search needs) (search needs))
