@@ -17,10 +17,8 @@ use Rattle.board.specs.declared.Home.{Home}
 use Rattle.board.specs.declared.Home.the-variants.{Line as HomeLine, Nowhere}
 use Rattle.line_bytes.specs.Bytes.{number as numberIn, digits, stored, lineOf}
 use Rattle.lines.specs.Records.{lineAt}
-use Rattle.stores.specs.Stores.{Store, store, performedAt}
-use Rattle.lines.specs.Holds.{placeOf, holdsAt, holderOf}
-use Rattle.lines.specs.Holds.{keeperOf}
-use Rattle.stores.specs.Stores.{currentBy, current}
+use Rattle.stores.specs.Stores.{Store, store, performedAt, currentBy, current}
+use Rattle.lines.specs.Holds.{placeOf, holdsAt, holderOf, keeperOf}
 use Rattle.reach.specs.Reach.{wayByHome, wayBy, wayOf, unreached, mayWrite}
 use Rattle.stores.specs.declared.Access.{Access}
 use Rattle.reach.specs.declared.Way.{Way}

@@ -14,8 +14,7 @@ use Rattle.board.specs.declared.Found.the-variants.{At, Nothing}
 use Rattle.board.proofs.Bools.{clash, and-left}
 use Rattle.line_bytes.specs.Bytes.{lineOf}
 use Rattle.lines.specs.Records.{lineAt}
-use Rattle.lines.specs.Holds.{holdsAt, holdsLine}
-use Rattle.lines.specs.Holds.{keeperOf}
+use Rattle.lines.specs.Holds.{holdsAt, holdsLine, keeperOf}
 use Rattle.stores.specs.Stores.{currentBy, current}
 use Rattle.machine.specs.Boards.{Board, fitsBoard, Fresh, fresh}
 use Rattle.promises.specs.Sound.{Sound, Shows, PagesOnce, FreshSound}

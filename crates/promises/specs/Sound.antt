@@ -12,9 +12,8 @@ use Rattle.board.specs.declared.Home.{Home}
 use Rattle.board.specs.declared.Home.the-variants.{Line}
 use Rattle.line_bytes.specs.Bytes.{lineOf}
 use Rattle.lines.specs.Records.{lineAt}
-use Rattle.stores.specs.Stores.{Store}
+use Rattle.stores.specs.Stores.{Store, current}
 use Rattle.lines.specs.Holds.{holdsAt}
-use Rattle.stores.specs.Stores.{current}
 use Rattle.machine.specs.Boards.{ways, Board, fitsBoard, Fresh}
 
 -- the lengths agree and the limits hold

@@ -17,8 +17,7 @@ use Rattle.board.specs.declared.Home.{Home}
 use Rattle.board.proofs.Bools.{clash, and-left, and-right}
 use Rattle.lines.specs.Records.{lineAt, putLine, noLine, newLine, permittedLine}
 use Rattle.stores.specs.Stores.{Store}
-use Rattle.lines.specs.Holds.{placeOf, holdsLine, holdsAt, holderFrom, holderOf}
-use Rattle.lines.specs.Holds.{keepsLine, keeperFrom, keeperOf}
+use Rattle.lines.specs.Holds.{placeOf, holdsLine, holdsAt, holderFrom, holderOf, keepsLine, keeperFrom, keeperOf}
 use Rattle.lines.specs.declared.Line.{Line}
 use Rattle.lines.proofs.Records.{line-put-same, line-put-other}
 use Rattle.store_laws.proofs.Sim.{Sim}
