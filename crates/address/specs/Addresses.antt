@@ -60,6 +60,10 @@ regionOf g =
 abbrev pub physicalOf : Global → Physical
 physicalOf g = physical (g .0 % prefixBytes)
 
+-- in a page that is mapped to a frame, the physical address lies in that frame, at the same offset
+abbrev pub inFrame : ℕ → Global → Physical
+inFrame frame g = physical (frame * pageBytes + g .0 % pageBytes)
+
 -- the entry for a page stands at 1023 × 2^34 + 4 × page
 abbrev pub entryOf : ℕ → Global
 entryOf page = global (tableIndex * tableBytes + 4 * page)

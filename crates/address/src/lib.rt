@@ -1,7 +1,7 @@
 // 01, "Addresses": effective, global and physical addresses, what they reach, and page table entries.
 ghost use mathlib.Core.Path.{_≡_};
 ghost use Prim.Native.Nat.{_+_, _<_, _^_};
-ghost use Rattle.address.specs.Addresses.{slotOf, globalOf, pageOf, nameOf, physicalLineOf, frameOfPhysical, regionOf, physicalOf, entryOf, isKernels, attachable, ordinaryPage};
+ghost use Rattle.address.specs.Addresses.{slotOf, globalOf, pageOf, nameOf, physicalLineOf, frameOfPhysical, regionOf, physicalOf, inFrame, entryOf, isKernels, attachable, ordinaryPage};
 
 // An address as a process brings it: 32 bits.
 pub struct Effective(pub u32);
@@ -111,19 +111,27 @@ impl Global {
     {
         Physical((self.0 % PREFIX_BYTES) as u32)
     }
+
+    // The address in a frame that its page is mapped to: the translation.
+    pub fn in_frame(self, frame: usize) -> Physical
+        requires { ⌜ frame < 2 ^ 20 ⌝ }
+        ensures { λ r. ⌜ r ≡ inFrame frame self ⌝ }
+    {
+        Physical((frame as u64 * PAGE_BYTES + self.0 % PAGE_BYTES) as u32)
+    }
 }
 
 impl Physical {
     pub fn line(self) -> usize
         ensures { λ r. ⌜ r ≡ physicalLineOf self ⌝ }
     {
-        (self.0 / 16) as usize
+        (self.0 as u64 / LINE_BYTES) as usize
     }
 
     pub fn frame(self) -> usize
         ensures { λ r. ⌜ r ≡ frameOfPhysical self ⌝ }
     {
-        (self.0 / 4096) as usize
+        (self.0 as u64 / PAGE_BYTES) as usize
     }
 }
 
