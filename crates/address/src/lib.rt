@@ -1,7 +1,7 @@
 // 01, "Addresses": effective, global and physical addresses, what they reach, and page table entries.
 ghost use mathlib.Core.Path.{_≡_};
 ghost use Prim.Native.Nat.{_+_, _<_, _^_};
-ghost use Rattle.address.specs.Addresses.{slotOf, globalOf, pageOf, nameOf, physicalLineOf, frameOfPhysical, regionOf, physicalOf, inFrame, entryOf, isKernels, attachable, ordinaryPage};
+ghost use Rattle.address.specs.Addresses.{slotOf, globalOf, pageOf, nameOf, physicalLineOf, frameOfPhysical, prefixOf, regionOf, physicalOf, inFrame, entryOf, isKernels, attachable, ordinaryPage};
 
 // An address as a process brings it: 32 bits.
 pub struct Effective(pub u32);
@@ -46,10 +46,8 @@ const LAST_PAGE: u64 = 4290772991;
 // A global address is below this.
 pub const GLOBAL_END: u64 = 17592186044416;
 
-// The line names in a page, and under one prefix.
+// The line names in a page.
 pub const PAGE_NAMES: u64 = 256;
-
-pub const PREFIX_NAMES: u64 = 268435456;
 
 impl Effective {
     // The slot that the address goes through.
@@ -89,10 +87,17 @@ impl Global {
         self.0 / LINE_BYTES
     }
 
+    // The part above the 32 bits of a memory address.
+    pub fn prefix(self) -> u64
+        ensures { λ r. ⌜ r ≡ prefixOf self ⌝ }
+    {
+        self.0 / PREFIX_BYTES
+    }
+
     pub fn region(self) -> Region
         ensures { λ r. ⌜ r ≡ regionOf self ⌝ }
     {
-        let prefix = self.0 / PREFIX_BYTES;
+        let prefix = self.prefix();
         if prefix == 0 {
             return Region::Uncached;
         }

@@ -2,40 +2,43 @@
 use Prim.Native.Nat.{ℕ}
 use mathlib.Core.Path.{_≡_, refl, _∙_, sym, ap}
 use mathlib.Core.Bool.{Bool, true, false, cond}
-use mathlib.Core.List.{List}
 use borrow.Author.Tests.{eqb-true, not-false}
 use Rattle.board.specs.declared.Answer.{Answer}
 use Rattle.board.specs.declared.Pending.{Pending}
-use Rattle.machine.specs.Boards.{Board, board, Outcome, outcome}
+use Rattle.machine.specs.Boards.{Board}
+use Rattle.machine.specs.Contracts.{Determines}
 use Rattle.crossing.specs.Packing.{packed, unpacked, isYes, wordAfter, tagOf}
-use Rattle.crossing.specs.Returns.{Returned, Meets, Returns}
+use Rattle.crossing.specs.Returns.{FlagKept, Returned, boardOf, Meets, Returns}
 use Rattle.crossing.proofs.Packs.{nothing-lost}
 
--- what is returned, read off an outcome and the tag's first word before the call
-returned : ℕ → Outcome → Returned
-returned before o = record {
-  result = packed (o .answer);
-  slots = o .after .slots;
-  words = o .after .words;
-  records = o .after .store .records;
-  cache = o .after .store .cache;
-  memory = o .after .store .memory;
-  set = wordAfter before (o .after .tag .set);
-  name = o .after .tag .name;
+-- what is returned, read off an answer, a board and the tag's first word before the call
+returned : ℕ → Answer → Board → Returned
+returned before r c = record {
+  result = packed r;
+  slots = c .slots;
+  words = c .words;
+  records = c .store .records;
+  cache = c .store .cache;
+  memory = c .store .memory;
+  set = wordAfter before (c .tag .set);
+  name = c .tag .name;
 }
 
-meets-returned : (before : ℕ) (o : Outcome) (x : Returned) → Meets before o x → x ≡ returned before o
+-- a return says its number and its flag's word anew
+return-again : (before : ℕ) (x : Returned) → FlagKept before (x .set) → x ≡ returned before (unpacked (x .result)) (boardOf x)
 unfolding returned
-meets-returned before o x h =
-    let r : x .result ≡ packed (unpacked (x .result)) = sym (nothing-lost .numbers (x .result)) in
-    let e = ap (returned before) (h .same-outcome) in
-    let d : x ≡ returned before (outcome (unpacked (x .result)) (board (x .slots) (x .words) (x .records) (x .cache) (x .memory) (tagOf (x .set) (x .name)))) =
-    ap (λ (q : ℕ). record { result = q; slots = x .slots; words = x .words; records = x .records; cache = x .cache; memory = x .memory; set = x .set; name = x .name }) r
-    ∙ ap (λ (q : ℕ). record { result = packed (unpacked (x .result)); slots = x .slots; words = x .words; records = x .records; cache = x .cache; memory = x .memory; set = q; name = x .name }) (h .same-word) in
-    d ∙ e
+return-again before x h =
+    ap (λ (q : ℕ). record { result = q; slots = x .slots; words = x .words; records = x .records; cache = x .cache; memory = x .memory; set = x .set; name = x .name })
+    (sym (nothing-lost .numbers (x .result)))
+    ∙ ap (λ (q : ℕ). record { result = packed (unpacked (x .result)); slots = x .slots; words = x .words; records = x .records; cache = x .cache; memory = x .memory; set = q; name = x .name }) h
 
-second : (before : ℕ) (o : Outcome) (x y : Returned) → Meets before o x → Meets before o y → x ≡ y
-second before o x y p q = meets-returned before o x p ∙ sym (meets-returned before o y q)
+second : (Contract : Answer → Board → Type 0) → Determines Contract → (before : ℕ) (x y : Returned)
+    → Meets Contract before x → Meets Contract before y → x ≡ y
+second Contract one before x y p q =
+    let e = one (unpacked (x .result)) (unpacked (y .result)) (boardOf x) (boardOf y) (p .same-outcome) (q .same-outcome) in
+    return-again before x (p .same-flag)
+    ∙ ap (λ (r : Answer). returned before r (boardOf x)) (e .0) ∙ ap (returned before (unpacked (y .result))) (e .1)
+    ∙ sym (return-again before y (q .same-flag))
 
 -- a flag's word that says the same as before is the word before
 word-same : (before : ℕ) (t : Bool) → isYes before ≡ t → wordAfter before t ≡ before
@@ -43,7 +46,7 @@ unfolding wordAfter
 word-same before true e = rw e
 word-same before false e = sym (eqb-true before 0 (not-false _ e))
 
-kept : (before name after name′ : ℕ) → tagOf after name′ ≡ tagOf before name → after ≡ wordAfter before (isYes after)
+kept : (before name after name′ : ℕ) → tagOf after name′ ≡ tagOf before name → FlagKept before after
     → (after ≡ before) × (name′ ≡ name)
 kept before name after name′ e w =
     let f : isYes after ≡ isYes before = ap (λ (t : Pending). t .set) e in

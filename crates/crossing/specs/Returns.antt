@@ -1,9 +1,29 @@
--- A contract of a call for C and Rust leaves no second outcome, and a call that leaves the tag leaves the caller's two words.
+-- The contracts of the calls for C and Rust are the calls' own (machine's Contracts), of the answer that is read off the returned number.
+-- No second return meets one, and a call that leaves the tag leaves the caller's two words.
 use Prim.Native.Nat.{ℕ}
 use mathlib.Core.Path.{_≡_}
 use mathlib.Core.List.{List}
-use Rattle.machine.specs.Boards.{board, Outcome, outcome}
+use denote.Ref.{RefT, now}
+use denote.Triple.Both.{Both}
+use Rattle.board.specs.declared.Answer.{Answer}
+use Rattle.board.specs.declared.Pending.{Pending}
+use Rattle.machine.specs.Boards.{Board, board}
+use Rattle.machine.specs.Contracts.{Determines}
 use Rattle.crossing.specs.Packing.{unpacked, isYes, wordAfter, tagOf}
+
+-- a word that a call is lent, and the tag that the caller's two words are before the call and after it
+abbrev pub Word : Type 0
+Word = Both (RefT ℕ) (RefT ℕ)
+
+abbrev pub tagBefore : Word → Word → Pending
+tagBefore set name = tagOf (now (set .entry)) (now (name .entry))
+
+abbrev pub tagAfter : Word → Word → Pending
+tagAfter set name = tagOf (now (set .exit)) (now (name .exit))
+
+-- the flag's word after a call: the caller's own while it says the same, else 1 or 0
+abbrev pub FlagKept : ℕ → ℕ → Type 0
+FlagKept before after = after ≡ wordAfter before (isYes after)
 
 -- what a C caller has after a call: the returned number, what stands in each buffer, and the tag's two words
 pub record Returned : Type 0 where
@@ -16,14 +36,18 @@ pub record Returned : Type 0 where
   pub set : ℕ
   pub name : ℕ
 
--- it meets the contract of a call whose definition gives the outcome o, where the tag's first word was `before`
-pub record Meets (before : ℕ) (o : Outcome) (x : Returned) : Type 0 where
-  pub same-outcome : outcome (unpacked (x .result)) (board (x .slots) (x .words) (x .records) (x .cache) (x .memory) (tagOf (x .set) (x .name))) ≡ o
-  pub same-word : x .set ≡ wordAfter before (isYes (x .set))
+abbrev pub boardOf : Returned → Board
+boardOf x = board (x .slots) (x .words) (x .records) (x .cache) (x .memory) (tagOf (x .set) (x .name))
 
-pub record Returns : Type 0 where
-  -- two returns that meet one contract are one
-  pub no-second-return : (before : ℕ) (o : Outcome) (x y : Returned) → Meets before o x → Meets before o y → x ≡ y
+-- it meets a call's contract, where the tag's first word was `before`
+pub record Meets (Contract : Answer → Board → Type 0) (before : ℕ) (x : Returned) : Type 0 where
+  pub same-outcome : Contract (unpacked (x .result)) (boardOf x)
+  pub same-flag : FlagKept before (x .set)
+
+pub record Returns : Type 1 where
+  -- of a contract that no second outcome meets, as are those of all calls (`NoSecondOutcome`), two returns that meet it are one
+  pub no-second-return : (Contract : Answer → Board → Type 0) → Determines Contract → (before : ℕ) (x y : Returned)
+      → Meets Contract before x → Meets Contract before y → x ≡ y
   -- a call that leaves the tag, as every refused call does, leaves the caller's two words
-  pub words-kept : (before name after name′ : ℕ) → tagOf after name′ ≡ tagOf before name → after ≡ wordAfter before (isYes after)
+  pub words-kept : (before name after name′ : ℕ) → tagOf after name′ ≡ tagOf before name → FlagKept before after
       → (after ≡ before) × (name′ ≡ name)

@@ -80,14 +80,13 @@ module _ (s : Shape) (words r c m : List ℕ) (name i : ℕ) (write : Bool) (w :
   pub held-bytes : (g : Global) (width : ℕ) → g .0 % 16 + width ≤ 16 → 16 * i + g .0 % 16 + width ≤ length c
   held-bytes g width h = omega (arith, held-inside)
 
-module _ (s : Shape) (words r c m : List ℕ) (g : Global) (user : Bool) (a : Access) (name : ℕ) (w : Way)
-    (n : name ≡ nameOf g) (e : w ≡ wayOf 1 s words r name) where
-  line-on : lineBy s name (g .0 % 16) user a (store r c m) w ≡ lineAccess s words g user a (store r c m)
+module _ (s : Shape) (words r c m : List ℕ) (g : Global) (user : Bool) (a : Access) (w : Way) (e : w ≡ wayOf 1 s words r (nameOf g)) where
+  line-on : lineBy s (nameOf g) (g .0 % 16) user a (store r c m) w ≡ lineAccess s words g user a (store r c m)
   unfolding lineBy lineAccess accessed
-  line-on = rw (e, n)
+  line-on = rw e
 
   by : Way → Reached
-  by = lineBy s name (g .0 % 16) user a (store r c m)
+  by = lineBy s (nameOf g) (g .0 % 16) user a (store r c m)
 
   pub line-missing : (x : Answer) → w ≡ Missing → x ≡ answer 8 0 0 → reached x r c m ≡ lineAccess s words g user a (store r c m)
   unfolding lineBy by byTable unreached
@@ -111,11 +110,12 @@ module _ (s : Shape) (words r c m : List ℕ) (g : Global) (user : Bool) (a : Ac
     unfolding lineBy by byTable unreached mayWrite
     memory-reads x t f = rw f (simp t at (ap by (sym k)) ∙ line-on)
 
-    pub memory-inserted : (x : Answer) (place : ℕ) (r₁ c₁ m₁ r₂ c₂ : List ℕ) → (user && (a .store && not write)) ≡ false → place ≡ name % s .lines
+    pub memory-inserted : (x : Answer) (name place : ℕ) (r₁ c₁ m₁ r₂ c₂ : List ℕ) → (user && (a .store && not write)) ≡ false
+        → name ≡ nameOf g → place ≡ name % s .lines
         → store r₁ c₁ m₁ ≡ inserted 1 s place name line write (store r c m)
         → reached x r₂ c₂ m₁ ≡ performedOn place (g .0 % 16) a 0 (store r₁ c₁ m₁)
         → reached x r₂ c₂ m₁ ≡ lineAccess s words g user a (store r c m)
     unfolding lineBy by byTable unreached mayWrite accessedBy
-    memory-inserted x place r₁ c₁ m₁ r₂ c₂ t p f d =
-        let q : place ≡ name % (s .lines / 1) = p ∙ ap (λ (l : ℕ). name % l) (sym (div-one (s .lines))) in
-        d ∙ ap (performedOn place (g .0 % 16) a 0) f ∙ rw q (simp t at (ap by (sym k)) ∙ line-on)
+    memory-inserted x name place r₁ c₁ m₁ r₂ c₂ t n p f d =
+        let q : place ≡ nameOf g % (s .lines / 1) = p ∙ ap (λ (l : ℕ). name % l) (sym (div-one (s .lines))) ∙ ap (λ (i : ℕ). i % (s .lines / 1)) n in
+        d ∙ ap (performedOn place (g .0 % 16) a 0) f ∙ rw (q, n) (simp t at (ap by (sym k)) ∙ line-on)

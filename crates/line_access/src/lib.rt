@@ -69,9 +69,8 @@ pub fn line_access(
     requires { ⌜ Sized s (now records) (now cache) (now memory) × (length (now words) ≡ s .frames) × Width (a .width) × (g .0 % lineBytes + a .width ≤ lineBytes) ⌝ }
     ensures { λ r. ⌜ reached r (now (records .exit)) (now (cache .exit)) (now (memory .exit)) ≡ lineAccess s (now (words .entry)) g user a (storeOf (now (records .entry)) (now (cache .entry)) (now (memory .entry))) ⌝ }
 {
-    let name = g.name();
     let offset = (g.0 % LINE_BYTES) as usize;
-    match reach::way_to(s, words, records, name) {
+    match reach::way_to(s, words, records, g) {
         Way::Missing => numbered(8),
         Way::Held(i, write) => {
             if user & (a.store & !write) {
@@ -83,6 +82,7 @@ pub fn line_access(
             if user & (a.store & !write) {
                 return numbered(9);
             }
+            let name = g.name();
             let lines = s.lines;
             let place = lines::place_of(lines, name);
             stores::insert(s, records, cache, memory, place, name, line, write);

@@ -5,9 +5,8 @@ ghost use Rattle.address.specs.Layout.{pageLines};
 ghost use Rattle.board.specs.declared.Pending.{Pending};
 ghost use Rattle.stores.specs.Stores.{store as storeOf, current};
 ghost use Rattle.stores.specs.Premises.{Sized};
-ghost use Rattle.machine.specs.Boards.{ways, board as boardOf, outcome};
-ghost use Rattle.machine.specs.Calls.{flushAll as flushCall};
-ghost use Rattle.machine.specs.Looks.{lookNumber as lookNumberOf, look as lookOf};
+ghost use Rattle.machine.specs.Boards.{ways};
+ghost use Rattle.machine.specs.Contracts.{before, after, FlushAll, LookNumber, Look};
 use board::Answer;
 use board::Found;
 use board::LINE_BYTES;
@@ -25,7 +24,7 @@ pub fn flush_all(
     cache: &[u8],
     memory: &mut [u8],
 ) -> Answer
-    ensures { λ r. ⌜ ((tag : Pending) → outcome r (boardOf (now (slots .entry)) (now (words .entry)) (now (records .exit)) (now (cache .entry)) (now (memory .exit)) tag) ≡ flushCall s (boardOf (now (slots .entry)) (now (words .entry)) (now (records .entry)) (now (cache .entry)) (now (memory .entry)) tag)) ⌝ }
+    ensures { λ r. ⌜ ((tag : Pending) → FlushAll s (before slots words records cache memory tag) r (after slots words records cache memory tag)) ⌝ }
 {
     if board::fits(
         s,
@@ -52,7 +51,7 @@ pub fn look_number(
     memory: &[u8],
     line: usize,
 ) -> u32
-    ensures { λ r. ⌜ ((tag : Pending) → r ≡ lookNumberOf s (boardOf (now (slots .entry)) (now (words .entry)) (now (records .entry)) (now (cache .entry)) (now (memory .entry)) tag) line) ⌝ }
+    ensures { λ r. ⌜ ((tag : Pending) → LookNumber s (before slots words records cache memory tag) line r) ⌝ }
 {
     if board::fits(
         s,
@@ -104,7 +103,7 @@ pub fn look<'a>(
     memory: &'a [u8],
     line: usize,
 ) -> &'a [u8]
-    ensures { λ r. ⌜ ((tag : Pending) → now r ≡ lookOf s (boardOf (now (slots .entry)) (now (words .entry)) (now (records .entry)) (now (cache .entry)) (now (memory .entry)) tag) line) ⌝ }
+    ensures { λ r. ⌜ ((tag : Pending) → Look s (before slots words records cache memory tag) line (now r)) ⌝ }
 {
     if board::fits(
         s,

@@ -6,8 +6,8 @@ ghost use Rattle.address.specs.Layout.{pageLines};
 ghost use Rattle.board.specs.Shapes.{maxFrames};
 ghost use Rattle.stores.specs.Stores.{store as storeOf};
 ghost use Rattle.stores.specs.Premises.{Sized};
-ghost use Rattle.machine.specs.Boards.{board as boardOf, outcome};
-ghost use Rattle.machine.specs.Calls.{loaded, loadAndMap as loadAndMapCall};
+ghost use Rattle.machine.specs.Calls.{loaded};
+ghost use Rattle.machine.specs.Contracts.{before, after, LoadAndMap};
 ghost use Rattle.load_call.specs.Checks.{loadFrame, loadCheck};
 use address::PAGE_NAMES;
 use board::Found;
@@ -87,7 +87,7 @@ pub fn load_and_map(
     pending: Pending,
     line: usize,
 ) -> Tagged
-    ensures { λ r. ⌜ outcome (r .answer) (boardOf (now (slots .entry)) (now (words .entry)) (now (records .exit)) (now (cache .exit)) (now (memory .exit)) (r .tag)) ≡ loadAndMapCall s (boardOf (now (slots .entry)) (now (words .entry)) (now (records .entry)) (now (cache .entry)) (now (memory .entry)) pending) line ⌝ }
+    ensures { λ r. ⌜ LoadAndMap s (before slots words records cache memory pending) line (r .answer) (after slots words records cache memory (r .tag)) ⌝ }
 {
     if board::fits(
         s,

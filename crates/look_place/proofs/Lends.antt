@@ -117,4 +117,4 @@ place-sixteen s b line h =
     ap length (place-look s b line h) ∙ look-sixteen s (b .slots) (b .words) (b .store .records) (b .store .cache) (b .store .memory) (b .tag) line 0 (sym h) refl
 
 pub place-is-look : PlaceIsLook
-place-is-look = record { bytes = place-look; inside = place-sixteen }
+place-is-look = record { bytes = place-look; inside = place-sixteen; no-second-place = λ s b line x y p q. p ∙ sym q }

@@ -30,6 +30,10 @@ placeBy line Nothing = inMemory + lineBytes * line
 unfoldable pub lookPlace : Shape → Board → ℕ → ℕ
 lookPlace s b line = byTable (λ n. nowhere) (lookTable s b line) (placeBy line (keeperOf ways s (b .store .records) line))
 
+-- the contract of look for C and Rust
+abbrev pub LookPlace : Shape → Board → ℕ → ℕ → Type 0
+LookPlace s b line place = place ≡ lookPlace s b line
+
 -- the sixteen bytes at such a place
 unfoldable pub bytesAt : Board → ℕ → List ℕ
 bytesAt b place = cond (ltb place inMemory) (part (b .store .cache) place lineBytes) (part (b .store .memory) (place - inMemory) lineBytes)
@@ -38,3 +42,5 @@ bytesAt b place = cond (ltb place inMemory) (part (b .store .cache) place lineBy
 pub record PlaceIsLook : Type 0 where
   pub bytes : (s : Shape) (b : Board) (line : ℕ) → lookNumber s b line ≡ 0 → bytesAt b (lookPlace s b line) ≡ look s b line
   pub inside : (s : Shape) (b : Board) (line : ℕ) → lookNumber s b line ≡ 0 → length (bytesAt b (lookPlace s b line)) ≡ lineBytes
+  -- no second place meets the contract
+  pub no-second-place : (s : Shape) (b : Board) (line x y : ℕ) → LookPlace s b line x → LookPlace s b line y → x ≡ y

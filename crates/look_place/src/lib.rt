@@ -5,8 +5,9 @@ ghost use Rattle.address.specs.Layout.{pageLines};
 ghost use Rattle.board.specs.declared.Pending.{Pending};
 ghost use Rattle.lines.specs.Holds.{keeperOf};
 ghost use Rattle.stores.specs.Premises.{Sized};
-ghost use Rattle.machine.specs.Boards.{ways, board as boardOf};
-ghost use Rattle.look_place.specs.Lends.{placeBy, lookPlace};
+ghost use Rattle.machine.specs.Boards.{ways};
+ghost use Rattle.machine.specs.Contracts.{before};
+ghost use Rattle.look_place.specs.Lends.{placeBy, LookPlace};
 use board::Found;
 use board::LINE_BYTES;
 use board::Shape;
@@ -37,7 +38,7 @@ pub fn place(
     memory: &[u8],
     line: usize,
 ) -> u64
-    ensures { λ r. ⌜ ((tag : Pending) → r ≡ lookPlace s (boardOf (now (slots .entry)) (now (words .entry)) (now (records .entry)) (now (cache .entry)) (now (memory .entry)) tag) line) ⌝ }
+    ensures { λ r. ⌜ ((tag : Pending) → LookPlace s (before slots words records cache memory tag) line r) ⌝ }
 {
     if line_calls::look_number(s, slots, words, records, cache, memory, line) == 0 {
         return place_of_line(s, records, cache, memory, line);

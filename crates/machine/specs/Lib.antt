@@ -4,4 +4,4 @@ pub mod Accesses
 pub mod Calls
 pub mod Looks
 pub mod Numbers
-pub mod Determined
+pub mod Contracts

@@ -2,9 +2,8 @@
 ghost use mathlib.Core.Path.{_≡_};
 ghost use lib.ListN.{length};
 ghost use Rattle.board.specs.declared.Pending.{Pending};
-ghost use Rattle.machine.specs.Boards.{board as boardOf, outcome};
 ghost use Rattle.machine.specs.Refusals.{isFrame};
-ghost use Rattle.machine.specs.Calls.{mapPage as mapCall};
+ghost use Rattle.machine.specs.Contracts.{before, after, Map};
 ghost use Rattle.map_call.specs.Numbers.{mapNumber};
 use board::Answer;
 use board::Found;
@@ -49,7 +48,7 @@ pub fn map(
     frame: usize,
     write: bool,
 ) -> Answer
-    ensures { λ r. ⌜ ((tag : Pending) → outcome r (boardOf (now (slots .entry)) (now (words .exit)) (now (records .exit)) (now (cache .entry)) (now (memory .exit)) tag) ≡ mapCall s (boardOf (now (slots .entry)) (now (words .entry)) (now (records .entry)) (now (cache .entry)) (now (memory .entry)) tag) page frame write) ⌝ }
+    ensures { λ r. ⌜ ((tag : Pending) → Map s (before slots words records cache memory tag) page frame write r (after slots words records cache memory tag)) ⌝ }
 {
     if board::fits(
         s,

@@ -1,14 +1,11 @@
 // The calls for C and Rust, all but user access: numbers and slices go in, and the answer comes back as one number. A flag is
 // a number, and any but 0 says yes. No call asks anything of the numbers or of the buffers' lengths.
-ghost use mathlib.Core.Path.{_≡_};
 ghost use Rattle.address.specs.Addresses.{global};
 ghost use Rattle.board.specs.declared.Pending.{Pending};
-ghost use Rattle.machine.specs.Boards.{board as boardOf, outcome};
-ghost use Rattle.machine.specs.Accesses.{supervisorAccess};
-ghost use Rattle.machine.specs.Calls.{attach as attachCall, detach as detachCall, mapPage as mapCall, unmap as unmapCall, protect as protectCall, flushAll as flushCall, tag as tagCall, loadAndMap as loadAndMapCall, dropTag as dropTagCall};
-ghost use Rattle.machine.specs.Looks.{lookNumber as lookNumberOf};
-ghost use Rattle.crossing.specs.Packing.{unpacked, isYes, wordAfter, tagOf, shape, access};
-ghost use Rattle.look_place.specs.Lends.{lookPlace};
+ghost use Rattle.machine.specs.Contracts.{before, after, SupervisorAccess, Attach, Detach, Map, Unmap, Protect, FlushAll, Tag, LoadAndMap, DropTag, LookNumber};
+ghost use Rattle.crossing.specs.Packing.{unpacked, isYes, tagOf, shape, access};
+ghost use Rattle.crossing.specs.Returns.{tagBefore, tagAfter, FlagKept};
+ghost use Rattle.look_place.specs.Lends.{LookPlace};
 use address::Global;
 use board::Pending;
 use board::Shape;
@@ -33,7 +30,7 @@ pub extern "C" fn oaledva_supervisor_access(
     address: u64,
     value: u32,
 ) -> u64
-    ensures { λ r. ⌜ outcome (unpacked r) (boardOf (now (slots .entry)) (now (words .entry)) (now (records .exit)) (now (cache .exit)) (now (memory .exit)) (tagOf set name)) ≡ supervisorAccess (shape frames uncached processes lines) (boardOf (now (slots .entry)) (now (words .entry)) (now (records .entry)) (now (cache .entry)) (now (memory .entry)) (tagOf set name)) (access store width value) (global address) ⌝ }
+    ensures { λ r. ⌜ SupervisorAccess (shape frames uncached processes lines) (before slots words records cache memory (tagOf set name)) (access store width value) (global address) (unpacked r) (after slots words records cache memory (tagOf set name)) ⌝ }
 {
     let s = Shape {
         frames: frames,
@@ -81,7 +78,7 @@ pub extern "C" fn oaledva_attach(
     segment: u64,
     write: u32,
 ) -> u64
-    ensures { λ r. ⌜ ((tag : Pending) → outcome (unpacked r) (boardOf (now (slots .exit)) (now (words .entry)) (now (records .entry)) (now (cache .entry)) (now (memory .entry)) tag) ≡ attachCall (shape frames uncached processes lines) (boardOf (now (slots .entry)) (now (words .entry)) (now (records .entry)) (now (cache .entry)) (now (memory .entry)) tag) process slot segment (isYes write)) ⌝ }
+    ensures { λ r. ⌜ ((tag : Pending) → Attach (shape frames uncached processes lines) (before slots words records cache memory tag) process slot segment (isYes write) (unpacked r) (after slots words records cache memory tag)) ⌝ }
 {
     let s = Shape {
         frames: frames,
@@ -119,7 +116,7 @@ pub extern "C" fn oaledva_detach(
     process: usize,
     slot: usize,
 ) -> u64
-    ensures { λ r. ⌜ ((tag : Pending) → outcome (unpacked r) (boardOf (now (slots .exit)) (now (words .entry)) (now (records .entry)) (now (cache .entry)) (now (memory .entry)) tag) ≡ detachCall (shape frames uncached processes lines) (boardOf (now (slots .entry)) (now (words .entry)) (now (records .entry)) (now (cache .entry)) (now (memory .entry)) tag) process slot) ⌝ }
+    ensures { λ r. ⌜ ((tag : Pending) → Detach (shape frames uncached processes lines) (before slots words records cache memory tag) process slot (unpacked r) (after slots words records cache memory tag)) ⌝ }
 {
     let s = Shape {
         frames: frames,
@@ -147,7 +144,7 @@ pub extern "C" fn oaledva_map(
     frame: usize,
     write: u32,
 ) -> u64
-    ensures { λ r. ⌜ ((tag : Pending) → outcome (unpacked r) (boardOf (now (slots .entry)) (now (words .exit)) (now (records .exit)) (now (cache .entry)) (now (memory .exit)) tag) ≡ mapCall (shape frames uncached processes lines) (boardOf (now (slots .entry)) (now (words .entry)) (now (records .entry)) (now (cache .entry)) (now (memory .entry)) tag) page frame (isYes write)) ⌝ }
+    ensures { λ r. ⌜ ((tag : Pending) → Map (shape frames uncached processes lines) (before slots words records cache memory tag) page frame (isYes write) (unpacked r) (after slots words records cache memory tag)) ⌝ }
 {
     let s = Shape {
         frames: frames,
@@ -183,7 +180,7 @@ pub extern "C" fn oaledva_unmap(
     memory: &mut [u8],
     page: u64,
 ) -> u64
-    ensures { λ r. ⌜ ((tag : Pending) → outcome (unpacked r) (boardOf (now (slots .entry)) (now (words .exit)) (now (records .exit)) (now (cache .entry)) (now (memory .exit)) tag) ≡ unmapCall (shape frames uncached processes lines) (boardOf (now (slots .entry)) (now (words .entry)) (now (records .entry)) (now (cache .entry)) (now (memory .entry)) tag) page) ⌝ }
+    ensures { λ r. ⌜ ((tag : Pending) → Unmap (shape frames uncached processes lines) (before slots words records cache memory tag) page (unpacked r) (after slots words records cache memory tag)) ⌝ }
 {
     let s = Shape {
         frames: frames,
@@ -210,7 +207,7 @@ pub extern "C" fn oaledva_protect(
     page: u64,
     write: u32,
 ) -> u64
-    ensures { λ r. ⌜ ((tag : Pending) → outcome (unpacked r) (boardOf (now (slots .entry)) (now (words .exit)) (now (records .exit)) (now (cache .entry)) (now (memory .exit)) tag) ≡ protectCall (shape frames uncached processes lines) (boardOf (now (slots .entry)) (now (words .entry)) (now (records .entry)) (now (cache .entry)) (now (memory .entry)) tag) page (isYes write)) ⌝ }
+    ensures { λ r. ⌜ ((tag : Pending) → Protect (shape frames uncached processes lines) (before slots words records cache memory tag) page (isYes write) (unpacked r) (after slots words records cache memory tag)) ⌝ }
 {
     let s = Shape {
         frames: frames,
@@ -235,7 +232,7 @@ pub extern "C" fn oaledva_flush_all(
     cache: &[u8],
     memory: &mut [u8],
 ) -> u64
-    ensures { λ r. ⌜ ((tag : Pending) → outcome (unpacked r) (boardOf (now (slots .entry)) (now (words .entry)) (now (records .exit)) (now (cache .entry)) (now (memory .exit)) tag) ≡ flushCall (shape frames uncached processes lines) (boardOf (now (slots .entry)) (now (words .entry)) (now (records .entry)) (now (cache .entry)) (now (memory .entry)) tag)) ⌝ }
+    ensures { λ r. ⌜ ((tag : Pending) → FlushAll (shape frames uncached processes lines) (before slots words records cache memory tag) (unpacked r) (after slots words records cache memory tag)) ⌝ }
 {
     let s = Shape {
         frames: frames,
@@ -263,8 +260,8 @@ pub extern "C" fn oaledva_tag(
     name: &mut u64,
     line: u64,
 ) -> u64
-    ensures { λ r. ⌜ outcome (unpacked r) (boardOf (now (slots .entry)) (now (words .entry)) (now (records .entry)) (now (cache .entry)) (now (memory .entry)) (tagOf (now (set .exit)) (now (name .exit)))) ≡ tagCall (shape frames uncached processes lines) (boardOf (now (slots .entry)) (now (words .entry)) (now (records .entry)) (now (cache .entry)) (now (memory .entry)) (tagOf (now (set .entry)) (now (name .entry)))) line ⌝ }
-    ensures { λ r. ⌜ now (set .exit) ≡ wordAfter (now (set .entry)) (isYes (now (set .exit))) ⌝ }
+    ensures { λ r. ⌜ Tag (shape frames uncached processes lines) (before slots words records cache memory (tagBefore set name)) line (unpacked r) (after slots words records cache memory (tagAfter set name)) ⌝ }
+    ensures { λ r. ⌜ FlagKept (now (set .entry)) (now (set .exit)) ⌝ }
 {
     let s = Shape {
         frames: frames,
@@ -298,8 +295,8 @@ pub extern "C" fn oaledva_load_and_map(
     name: &mut u64,
     line: usize,
 ) -> u64
-    ensures { λ r. ⌜ outcome (unpacked r) (boardOf (now (slots .entry)) (now (words .entry)) (now (records .exit)) (now (cache .exit)) (now (memory .exit)) (tagOf (now (set .exit)) (now (name .exit)))) ≡ loadAndMapCall (shape frames uncached processes lines) (boardOf (now (slots .entry)) (now (words .entry)) (now (records .entry)) (now (cache .entry)) (now (memory .entry)) (tagOf (now (set .entry)) (now (name .entry)))) line ⌝ }
-    ensures { λ r. ⌜ now (set .exit) ≡ wordAfter (now (set .entry)) (isYes (now (set .exit))) ⌝ }
+    ensures { λ r. ⌜ LoadAndMap (shape frames uncached processes lines) (before slots words records cache memory (tagBefore set name)) line (unpacked r) (after slots words records cache memory (tagAfter set name)) ⌝ }
+    ensures { λ r. ⌜ FlagKept (now (set .entry)) (now (set .exit)) ⌝ }
 {
     let s = Shape {
         frames: frames,
@@ -332,8 +329,8 @@ pub extern "C" fn oaledva_drop_tag(
     set: &mut u32,
     name: &mut u64,
 ) -> u64
-    ensures { λ r. ⌜ outcome (unpacked r) (boardOf (now (slots .entry)) (now (words .entry)) (now (records .entry)) (now (cache .entry)) (now (memory .entry)) (tagOf (now (set .exit)) (now (name .exit)))) ≡ dropTagCall (shape frames uncached processes lines) (boardOf (now (slots .entry)) (now (words .entry)) (now (records .entry)) (now (cache .entry)) (now (memory .entry)) (tagOf (now (set .entry)) (now (name .entry)))) ⌝ }
-    ensures { λ r. ⌜ now (set .exit) ≡ wordAfter (now (set .entry)) (isYes (now (set .exit))) ⌝ }
+    ensures { λ r. ⌜ DropTag (shape frames uncached processes lines) (before slots words records cache memory (tagBefore set name)) (unpacked r) (after slots words records cache memory (tagAfter set name)) ⌝ }
+    ensures { λ r. ⌜ FlagKept (now (set .entry)) (now (set .exit)) ⌝ }
 {
     let s = Shape {
         frames: frames,
@@ -365,7 +362,7 @@ pub extern "C" fn oaledva_look_number(
     memory: &[u8],
     line: usize,
 ) -> u32
-    ensures { λ r. ⌜ ((tag : Pending) → r ≡ lookNumberOf (shape frames uncached processes lines) (boardOf (now (slots .entry)) (now (words .entry)) (now (records .entry)) (now (cache .entry)) (now (memory .entry)) tag) line) ⌝ }
+    ensures { λ r. ⌜ ((tag : Pending) → LookNumber (shape frames uncached processes lines) (before slots words records cache memory tag) line r) ⌝ }
 {
     let s = Shape {
         frames: frames,
@@ -390,7 +387,7 @@ pub extern "C" fn oaledva_look(
     memory: &[u8],
     line: usize,
 ) -> u64
-    ensures { λ r. ⌜ ((tag : Pending) → r ≡ lookPlace (shape frames uncached processes lines) (boardOf (now (slots .entry)) (now (words .entry)) (now (records .entry)) (now (cache .entry)) (now (memory .entry)) tag) line) ⌝ }
+    ensures { λ r. ⌜ ((tag : Pending) → LookPlace (shape frames uncached processes lines) (before slots words records cache memory tag) line r) ⌝ }
 {
     let s = Shape {
         frames: frames,

@@ -1,8 +1,6 @@
 // User access for C and Rust, alone in its archive: with a second function over the same code the compiler would not inline it.
-ghost use mathlib.Core.Path.{_≡_};
 ghost use Rattle.address.specs.Addresses.{effective};
-ghost use Rattle.machine.specs.Boards.{board as boardOf, outcome};
-ghost use Rattle.machine.specs.Accesses.{userAccess};
+ghost use Rattle.machine.specs.Contracts.{before, after, UserAccess};
 ghost use Rattle.crossing.specs.Packing.{unpacked, tagOf, shape, access};
 use address::Effective;
 use board::Pending;
@@ -29,7 +27,7 @@ pub extern "C" fn oaledva_user_access(
     address: u32,
     value: u32,
 ) -> u64
-    ensures { λ r. ⌜ outcome (unpacked r) (boardOf (now (slots .entry)) (now (words .entry)) (now (records .exit)) (now (cache .exit)) (now (memory .exit)) (tagOf set name)) ≡ userAccess (shape frames uncached processes lines) (boardOf (now (slots .entry)) (now (words .entry)) (now (records .entry)) (now (cache .entry)) (now (memory .entry)) (tagOf set name)) process (access store width value) (effective address) ⌝ }
+    ensures { λ r. ⌜ UserAccess (shape frames uncached processes lines) (before slots words records cache memory (tagOf set name)) process (access store width value) (effective address) (unpacked r) (after slots words records cache memory (tagOf set name)) ⌝ }
 {
     let s = Shape {
         frames: frames,

@@ -1,8 +1,7 @@
 // 01, "Calls": unmap and protect.
 ghost use mathlib.Core.Path.{_≡_};
 ghost use Rattle.board.specs.declared.Pending.{Pending};
-ghost use Rattle.machine.specs.Boards.{board as boardOf, outcome};
-ghost use Rattle.machine.specs.Calls.{unmap as unmapCall, protect as protectCall};
+ghost use Rattle.machine.specs.Contracts.{before, after, Unmap, Protect};
 ghost use Rattle.page_calls.specs.Checks.{pageFrame};
 use board::Answer;
 use board::Found;
@@ -39,7 +38,7 @@ pub fn unmap(
     memory: &mut [u8],
     page: u64,
 ) -> Answer
-    ensures { λ r. ⌜ ((tag : Pending) → outcome r (boardOf (now (slots .entry)) (now (words .exit)) (now (records .exit)) (now (cache .entry)) (now (memory .exit)) tag) ≡ unmapCall s (boardOf (now (slots .entry)) (now (words .entry)) (now (records .entry)) (now (cache .entry)) (now (memory .entry)) tag) page) ⌝ }
+    ensures { λ r. ⌜ ((tag : Pending) → Unmap s (before slots words records cache memory tag) page r (after slots words records cache memory tag)) ⌝ }
 {
     if board::fits(
         s,
@@ -73,7 +72,7 @@ pub fn protect(
     page: u64,
     write: bool,
 ) -> Answer
-    ensures { λ r. ⌜ ((tag : Pending) → outcome r (boardOf (now (slots .entry)) (now (words .exit)) (now (records .exit)) (now (cache .entry)) (now (memory .exit)) tag) ≡ protectCall s (boardOf (now (slots .entry)) (now (words .entry)) (now (records .entry)) (now (cache .entry)) (now (memory .entry)) tag) page write) ⌝ }
+    ensures { λ r. ⌜ ((tag : Pending) → Protect s (before slots words records cache memory tag) page write r (after slots words records cache memory tag)) ⌝ }
 {
     if board::fits(
         s,

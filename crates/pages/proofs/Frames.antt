@@ -10,8 +10,10 @@ use lib.ListN.{length, getD, drop, drop-of-length-le, length-drop}
 use lib.Seq.{drop-cons}
 use borrow.Author.Tests.{eq-eqb, ne-eqb, ltb-true, leb-true}
 use Rattle.address.specs.Layout.{pageLines, prefixLines, firstPage, lastPage}
-use Rattle.address.specs.Addresses.{ordinaryPage, pageOfName}
-use Rattle.pages.specs.Pages.{namesPage, wordWrites, lowestFrom, lowestFrame, mappedTo, freeFrame, directFrame, directHome, homeBy, homeOf}
+use Rattle.address.specs.Addresses.{pageOf, nameOf, physicalLineOf, frameOfPhysical, prefixOf, physicalOf, inFrame, ordinaryPage, pageOfName}
+use Rattle.address.specs.declared.Global.{Global}
+use Rattle.address.specs.declared.Physical.{Physical}
+use Rattle.pages.specs.Pages.{namesPage, wordWrites, lowestFrom, lowestFrame, mappedTo, freeFrame, directFrame, directHome, lineIn, homeBy, homeOf}
 use Rattle.board.specs.declared.Shape.{Shape}
 use Rattle.board.specs.declared.Found.{Found}
 use Rattle.board.specs.declared.Found.the-variants.{At, Nothing}
@@ -151,6 +153,53 @@ module _ (s : Shape) (words : List ℕ) (name : ℕ) where
     pub home-direct : (home : Home) → found ≡ Nothing → home ≡ directHome s words name → home ≡ homeOf s words name
     unfolding homeBy
     home-direct home k d = d ∙ ap (homeBy s words name) (sym k) ∙ home-by
+
+-- the parts of an address are those of its line's name: its page, its prefix, and below prefix 1 its line and frame
+module _ (g : Global) where
+  name-page : pageOfName (nameOf g) ≡ pageOf g
+  name-page = omega arith
+
+  name-prefix : nameOf g / prefixLines ≡ prefixOf g
+  name-prefix = omega arith
+
+  name-line : nameOf g % prefixLines ≡ physicalLineOf (physicalOf g)
+  name-line = omega arith
+
+  name-frame : directFrame (nameOf g) ≡ frameOfPhysical (physicalOf g)
+  name-frame = omega arith
+
+  -- the physical line of an address in a frame is its name's line there
+  line-in-frame : (frame : ℕ) → physicalLineOf (inFrame frame g) ≡ lineIn frame (nameOf g)
+  line-in-frame frame = omega arith
+
+-- the same of an address, one law a return of direct_home and of home_of: q is its prefix, p its physical address
+module _ (s : Shape) (words : List ℕ) (g : Global) where
+  module _ (q : ℕ) (e : q ≡ prefixOf g) where
+    module _ (p : Physical) (t : Bool) (frame : ℕ) (h : p ≡ physicalOf g) (i : frame ≡ frameOfPhysical p) (k : t ≡ freeFrame s words frame) (one : q ≡ 1) where
+      free : t ≡ freeFrame s words (directFrame (nameOf g))
+      free = k ∙ ap (freeFrame s words) (i ∙ ap frameOfPhysical h ∙ sym (name-frame g))
+
+      pub address-direct-free : (line : ℕ) → line ≡ physicalLineOf p → t ≡ true → Line line true ≡ directHome s words (nameOf g)
+      address-direct-free line l m =
+          ap (λ (x : ℕ). Line x true) (l ∙ ap physicalLineOf h ∙ sym (name-line g)) ∙ direct-some s words (nameOf g) t free (name-prefix g ∙ sym e ∙ one) m
+
+      pub address-direct-used : t ≡ false → Nowhere ≡ directHome s words (nameOf g)
+      address-direct-used = direct-used s words (nameOf g) t free (name-prefix g ∙ sym e ∙ one)
+
+    pub address-direct-other : (q ≡ 1 → ⊥) → Nowhere ≡ directHome s words (nameOf g)
+    address-direct-other n = direct-other s words (nameOf g) (λ z. n (e ∙ sym (name-prefix g) ∙ z))
+
+  module _ (page : ℕ) (found : Found) (o : page ≡ pageOf g) (e : found ≡ mappedTo s words page) where
+    mapped-name : found ≡ mappedTo s words (pageOfName (nameOf g))
+    mapped-name = e ∙ ap (mappedTo s words) (o ∙ sym (name-page g))
+
+    pub address-home-at : (f : ℕ) (p : Physical) (line : ℕ) (write : Bool) → found ≡ At f → p ≡ inFrame f g → line ≡ physicalLineOf p
+        → write ≡ wordWrites (getD words f 0) → Line line write ≡ homeOf s words (nameOf g)
+    address-home-at f p line write k h l w =
+        ap (λ (x : ℕ). Line x write) (l ∙ ap physicalLineOf h ∙ line-in-frame g f) ∙ home-at s words (nameOf g) found mapped-name f write k w
+
+    pub address-home-direct : (home : Home) → found ≡ Nothing → home ≡ directHome s words (nameOf g) → home ≡ homeOf s words (nameOf g)
+    address-home-direct = home-direct s words (nameOf g) found mapped-name
 
 -- a line under a test is that line, and the test passed
 pub if-line : (t : Bool) (m line : ℕ) (write : Bool) → cond t (Line m true) Nowhere ≡ Line line write → (t ≡ true) × ((m ≡ line) × (write ≡ true))

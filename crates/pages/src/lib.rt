@@ -3,14 +3,13 @@ ghost use mathlib.Core.Path.{_≡_};
 ghost use mathlib.Core.Bool.{true};
 ghost use Prim.Native.Nat.{ℕ, _+_, _/_, _≤_, _<_, _^_};
 ghost use lib.ListN.{length, getD};
+ghost use Rattle.address.specs.Addresses.{nameOf};
 ghost use Rattle.board.specs.Shapes.{maxFrames};
 ghost use Rattle.pages.specs.Pages.{frameWord, wordWrites, lowestFrame, mappedTo, freeFrame, directHome, homeOf};
-use address::PAGE_NAMES;
-use address::PREFIX_NAMES;
+use address::Global;
 use address::ordinary_page;
 use board::Found;
 use board::Home;
-use board::PAGE_LINES;
 use board::Shape;
 
 // The word of a frame that a page is mapped to.
@@ -92,33 +91,30 @@ pub fn free_frame(s: Shape, words: &[u64], frame: usize) -> bool
     words[frame] == 0
 }
 
-// The physical line of a name under prefix 1.
-fn direct_home(s: Shape, words: &[u64], name: u64) -> Home
+// The physical line of an address under prefix 1.
+fn direct_home(s: Shape, words: &[u64], g: Global) -> Home
     requires { ⌜ length (now words) ≡ s .frames ⌝ }
-    ensures { λ r. ⌜ r ≡ directHome s (now (words .entry)) name ⌝ }
+    ensures { λ r. ⌜ r ≡ directHome s (now (words .entry)) (nameOf g) ⌝ }
 {
-    if name / PREFIX_NAMES == 1 {
-        let line = (name % PREFIX_NAMES) as usize;
-        if free_frame(s, words, line / PAGE_LINES) {
-            return Home::Line(line, true);
+    if g.prefix() == 1 {
+        let p = g.physical();
+        if free_frame(s, words, p.frame()) {
+            return Home::Line(p.line(), true);
         }
     }
     Home::Nowhere
 }
 
-// The physical line that a line name maps to.
-pub fn home_of(s: Shape, words: &[u64], name: u64) -> Home
+// The physical line that an address maps to.
+pub fn home_of(s: Shape, words: &[u64], g: Global) -> Home
     requires { ⌜ (length (now words) ≡ s .frames) × (s .frames ≤ maxFrames) ⌝ }
-    ensures { λ r. ⌜ r ≡ homeOf s (now (words .entry)) name ⌝ }
+    ensures { λ r. ⌜ r ≡ homeOf s (now (words .entry)) (nameOf g) ⌝ }
 {
-    match mapped_to(s, words, name / PAGE_NAMES) {
+    match mapped_to(s, words, g.page()) {
         Found::At(f) => {
             let w = words[f];
-            Home::Line(
-                f * PAGE_LINES + (name % PAGE_NAMES) as usize,
-                word_writes(w),
-            )
+            Home::Line(g.in_frame(f).line(), word_writes(w))
         }
-        Found::Nothing => direct_home(s, words, name),
+        Found::Nothing => direct_home(s, words, g),
     }
 }

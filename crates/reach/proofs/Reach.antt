@@ -6,6 +6,8 @@ use mathlib.Core.List.{List}
 use native.Mathlib.Nat.{mod-lt}
 use native.Mathlib.Omega.{arith}
 use lib.ListN.{length}
+use Rattle.address.specs.Addresses.{nameOf}
+use Rattle.address.specs.declared.Global.{Global}
 use Rattle.pages.specs.Pages.{homeOf}
 use Rattle.board.specs.declared.Shape.{Shape}
 use Rattle.board.specs.declared.Found.{Found}
@@ -21,25 +23,26 @@ use Rattle.reach.specs.declared.Way.{Way}
 use Rattle.reach.specs.declared.Way.the-variants.{Held, InMemory, Missing}
 use Rattle.lines.proofs.Holders.{holder-place}
 
-module _ (s : Shape) (words records : List ℕ) (name : ℕ) (found : Found) (e : found ≡ holderOf 1 s records name) where
-  way-by : wayBy s words records name found ≡ wayOf 1 s words records name
+-- one law a return of way_to: `name` is the address's line name
+module _ (s : Shape) (words records : List ℕ) (g : Global) (name : ℕ) (found : Found) (q : name ≡ nameOf g) (e : found ≡ holderOf 1 s records name) where
+  way-by : wayBy s words records (nameOf g) found ≡ wayOf 1 s words records (nameOf g)
   unfolding wayOf
-  way-by = rw e
+  way-by = ap (wayBy s words records (nameOf g)) (e ∙ ap (holderOf 1 s records) q)
 
-  pub way-at : (i : ℕ) (l : Line) → found ≡ At i → l ≡ lineAt records i → Held i (l .write) ≡ wayOf 1 s words records name
+  pub way-at : (i : ℕ) (l : Line) → found ≡ At i → l ≡ lineAt records i → Held i (l .write) ≡ wayOf 1 s words records (nameOf g)
   unfolding wayBy
-  way-at i l k h = rw h (ap (wayBy s words records name) (sym k) ∙ way-by)
+  way-at i l k h = rw h (ap (wayBy s words records (nameOf g)) (sym k) ∙ way-by)
 
-  module _ (home : Home) (n : found ≡ Nothing) (h : home ≡ homeOf s words name) where
-    way-home : wayByHome home ≡ wayOf 1 s words records name
+  module _ (home : Home) (n : found ≡ Nothing) (h : home ≡ homeOf s words (nameOf g)) where
+    way-home : wayByHome home ≡ wayOf 1 s words records (nameOf g)
     unfolding wayBy
-    way-home = rw h (ap (wayBy s words records name) (sym n) ∙ way-by)
+    way-home = rw h (ap (wayBy s words records (nameOf g)) (sym n) ∙ way-by)
 
-    pub way-line : (line : ℕ) (write : Bool) → home ≡ HomeLine line write → InMemory line write ≡ wayOf 1 s words records name
+    pub way-line : (line : ℕ) (write : Bool) → home ≡ HomeLine line write → InMemory line write ≡ wayOf 1 s words records (nameOf g)
     unfolding wayByHome
     way-line line write k = ap wayByHome (sym k) ∙ way-home
 
-    pub way-nowhere : home ≡ Nowhere → Missing ≡ wayOf 1 s words records name
+    pub way-nowhere : home ≡ Nowhere → Missing ≡ wayOf 1 s words records (nameOf g)
     unfolding wayByHome
     way-nowhere k = ap wayByHome (sym k) ∙ way-home
 

@@ -3,8 +3,10 @@ ghost use mathlib.Core.Path.{_≡_};
 ghost use Prim.Native.Nat.{_*_, _≤_};
 ghost use lib.Count.{ones};
 ghost use lib.ListN.{length};
+ghost use Rattle.address.specs.Addresses.{nameOf};
 ghost use Rattle.board.specs.Shapes.{maxFrames};
 ghost use Rattle.reach.specs.Reach.{wayOf};
+use address::Global;
 use board::Found;
 use board::Home;
 use board::Shape;
@@ -17,17 +19,17 @@ pub enum Way {
     Missing,
 }
 
-// How the line of this name is reached.
-pub fn way_to(s: Shape, words: &[u64], records: &[u64], name: u64) -> Way
+// How the line of this address is reached.
+pub fn way_to(s: Shape, words: &[u64], records: &[u64], g: Global) -> Way
     requires { ⌜ (ones (s .lines) ≡ 1) × (s .frames ≤ maxFrames) × (length (now words) ≡ s .frames) × (length (now records) ≡ 2 * s .lines) ⌝ }
-    ensures { λ r. ⌜ r ≡ wayOf 1 s (now (words .entry)) (now (records .entry)) name ⌝ }
+    ensures { λ r. ⌜ r ≡ wayOf 1 s (now (words .entry)) (now (records .entry)) (nameOf g) ⌝ }
 {
-    match lines::holder_of(s, records, name) {
+    match lines::holder_of(s, records, g.name()) {
         Found::At(i) => {
             let l = lines::line_at(records, i);
             Way::Held(i, l.write)
         }
-        Found::Nothing => match pages::home_of(s, words, name) {
+        Found::Nothing => match pages::home_of(s, words, g) {
             Home::Line(line, write) => Way::InMemory(line, write),
             Home::Nowhere => Way::Missing,
         },

@@ -3,9 +3,8 @@ ghost use mathlib.Core.Path.{_≡_};
 ghost use mathlib.Core.Bool.{_&&_};
 ghost use Rattle.address.specs.Addresses.{attachable};
 ghost use Rattle.board.specs.declared.Pending.{Pending};
-ghost use Rattle.machine.specs.Boards.{board as boardOf, outcome};
 ghost use Rattle.machine.specs.Refusals.{isProcess, isSlot};
-ghost use Rattle.machine.specs.Calls.{attach as attachCall, detach as detachCall};
+ghost use Rattle.machine.specs.Contracts.{before, after, Attach, Detach};
 use board::Answer;
 use board::PROCESS_SLOTS;
 use board::Shape;
@@ -39,7 +38,7 @@ pub fn attach(
     segment: u64,
     write: bool,
 ) -> Answer
-    ensures { λ r. ⌜ ((tag : Pending) → outcome r (boardOf (now (slots .exit)) (now (words .entry)) (now (records .entry)) (now (cache .entry)) (now (memory .entry)) tag) ≡ attachCall s (boardOf (now (slots .entry)) (now (words .entry)) (now (records .entry)) (now (cache .entry)) (now (memory .entry)) tag) process slot segment write) ⌝ }
+    ensures { λ r. ⌜ ((tag : Pending) → Attach s (before slots words records cache memory tag) process slot segment write r (after slots words records cache memory tag)) ⌝ }
 {
     if board::fits(
         s,
@@ -70,7 +69,7 @@ pub fn detach(
     process: usize,
     slot: usize,
 ) -> Answer
-    ensures { λ r. ⌜ ((tag : Pending) → outcome r (boardOf (now (slots .exit)) (now (words .entry)) (now (records .entry)) (now (cache .entry)) (now (memory .entry)) tag) ≡ detachCall s (boardOf (now (slots .entry)) (now (words .entry)) (now (records .entry)) (now (cache .entry)) (now (memory .entry)) tag) process slot) ⌝ }
+    ensures { λ r. ⌜ ((tag : Pending) → Detach s (before slots words records cache memory tag) process slot r (after slots words records cache memory tag)) ⌝ }
 {
     if board::fits(
         s,

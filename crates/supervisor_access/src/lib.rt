@@ -1,8 +1,7 @@
 // 01, "Calls": a supervisor's load or store, by global address.
 ghost use mathlib.Core.Path.{_≡_};
 ghost use lib.ListN.{length};
-ghost use Rattle.machine.specs.Boards.{board as boardOf, outcome};
-ghost use Rattle.machine.specs.Accesses.{supervisorAccess};
+ghost use Rattle.machine.specs.Contracts.{before, after, SupervisorAccess};
 ghost use Rattle.supervisor_access.specs.Plans.{regionPlan, waits, supervisorPlan};
 use address::GLOBAL_END;
 use address::Global;
@@ -101,7 +100,7 @@ pub fn supervisor_access(
     a: Access,
     g: Global,
 ) -> Answer
-    ensures { λ r. ⌜ outcome r (boardOf (now (slots .entry)) (now (words .entry)) (now (records .exit)) (now (cache .exit)) (now (memory .exit)) tag) ≡ supervisorAccess s (boardOf (now (slots .entry)) (now (words .entry)) (now (records .entry)) (now (cache .entry)) (now (memory .entry)) tag) a g ⌝ }
+    ensures { λ r. ⌜ SupervisorAccess s (before slots words records cache memory tag) a g r (after slots words records cache memory tag) ⌝ }
 {
     if board::fits(
         s,

@@ -1,8 +1,6 @@
 // The calls on the tag behind a reference, by value: each puts the tag into a local, calls through a reference to it, and gives
 // back what stands there. Whoever calls one needs no walk.
-ghost use mathlib.Core.Path.{_≡_};
-ghost use Rattle.machine.specs.Boards.{board as boardOf, outcome};
-ghost use Rattle.machine.specs.Calls.{tag as tagCall, loadAndMap as loadAndMapCall, dropTag as dropTagCall};
+ghost use Rattle.machine.specs.Contracts.{before, after, Tag, LoadAndMap, DropTag};
 use board::Pending;
 use board::Shape;
 use tag_calls::Tagged;
@@ -17,7 +15,7 @@ pub fn drop_tag_through(
     memory: &[u8],
     pending: Pending,
 ) -> Tagged
-    ensures { λ r. ⌜ outcome (r .answer) (boardOf (now (slots .entry)) (now (words .entry)) (now (records .entry)) (now (cache .entry)) (now (memory .entry)) (r .tag)) ≡ dropTagCall s (boardOf (now (slots .entry)) (now (words .entry)) (now (records .entry)) (now (cache .entry)) (now (memory .entry)) pending) ⌝ }
+    ensures { λ r. ⌜ DropTag s (before slots words records cache memory pending) (r .answer) (after slots words records cache memory (r .tag)) ⌝ }
 {
     let mut q = pending;
     let answer = tags::drop_tag(s, slots, words, records, cache, memory, &mut q);
@@ -38,7 +36,7 @@ pub fn tag_through(
     pending: Pending,
     name: u64,
 ) -> Tagged
-    ensures { λ r. ⌜ outcome (r .answer) (boardOf (now (slots .entry)) (now (words .entry)) (now (records .entry)) (now (cache .entry)) (now (memory .entry)) (r .tag)) ≡ tagCall s (boardOf (now (slots .entry)) (now (words .entry)) (now (records .entry)) (now (cache .entry)) (now (memory .entry)) pending) name ⌝ }
+    ensures { λ r. ⌜ Tag s (before slots words records cache memory pending) name (r .answer) (after slots words records cache memory (r .tag)) ⌝ }
 {
     let mut q = pending;
     let answer = tags::tag(s, slots, words, records, cache, memory, &mut q, name);
@@ -59,7 +57,7 @@ pub fn load_and_map_through(
     pending: Pending,
     line: usize,
 ) -> Tagged
-    ensures { λ r. ⌜ outcome (r .answer) (boardOf (now (slots .entry)) (now (words .entry)) (now (records .exit)) (now (cache .exit)) (now (memory .exit)) (r .tag)) ≡ loadAndMapCall s (boardOf (now (slots .entry)) (now (words .entry)) (now (records .entry)) (now (cache .entry)) (now (memory .entry)) pending) line ⌝ }
+    ensures { λ r. ⌜ LoadAndMap s (before slots words records cache memory pending) line (r .answer) (after slots words records cache memory (r .tag)) ⌝ }
 {
     let mut q = pending;
     let answer = tags::load_and_map(s, slots, words, records, cache, memory, &mut q, line);

@@ -1,8 +1,8 @@
 // 01, "Calls": tag and drop tag, and what the three calls on the tag give.
 ghost use mathlib.Core.Path.{_≡_};
 ghost use Rattle.board.specs.Answers.{answer};
-ghost use Rattle.machine.specs.Boards.{board as boardOf, outcome, noTag};
-ghost use Rattle.machine.specs.Calls.{tag as tagCall, dropTag as dropTagCall};
+ghost use Rattle.machine.specs.Boards.{noTag};
+ghost use Rattle.machine.specs.Contracts.{before, after, Tag, DropTag};
 use address::PAGE_NAMES;
 use board::Answer;
 use board::Pending;
@@ -49,7 +49,7 @@ pub fn tag(
     pending: Pending,
     name: u64,
 ) -> Tagged
-    ensures { λ r. ⌜ outcome (r .answer) (boardOf (now (slots .entry)) (now (words .entry)) (now (records .entry)) (now (cache .entry)) (now (memory .entry)) (r .tag)) ≡ tagCall s (boardOf (now (slots .entry)) (now (words .entry)) (now (records .entry)) (now (cache .entry)) (now (memory .entry)) pending) name ⌝ }
+    ensures { λ r. ⌜ Tag s (before slots words records cache memory pending) name (r .answer) (after slots words records cache memory (r .tag)) ⌝ }
 {
     if board::fits(
         s,
@@ -87,7 +87,7 @@ pub fn drop_tag(
     memory: &[u8],
     pending: Pending,
 ) -> Tagged
-    ensures { λ r. ⌜ outcome (r .answer) (boardOf (now (slots .entry)) (now (words .entry)) (now (records .entry)) (now (cache .entry)) (now (memory .entry)) (r .tag)) ≡ dropTagCall s (boardOf (now (slots .entry)) (now (words .entry)) (now (records .entry)) (now (cache .entry)) (now (memory .entry)) pending) ⌝ }
+    ensures { λ r. ⌜ DropTag s (before slots words records cache memory pending) (r .answer) (after slots words records cache memory (r .tag)) ⌝ }
 {
     if board::fits(
         s,

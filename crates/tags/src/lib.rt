@@ -1,8 +1,6 @@
 // The pending tag as a small record changed in place: tag, load-and-map and drop tag take a mutable reference to it.
 // Each reads the record, calls the covered call by value, writes the tag back and gives the answer.
-ghost use mathlib.Core.Path.{_≡_};
-ghost use Rattle.machine.specs.Boards.{board as boardOf, outcome};
-ghost use Rattle.machine.specs.Calls.{tag as tagCall, loadAndMap as loadAndMapCall, dropTag as dropTagCall};
+ghost use Rattle.machine.specs.Contracts.{before, after, Tag, LoadAndMap, DropTag};
 use board::Answer;
 use board::Pending;
 use board::Shape;
@@ -17,7 +15,7 @@ pub fn drop_tag(
     memory: &[u8],
     pending: &mut Pending,
 ) -> Answer
-    ensures { λ r. ⌜ outcome r (boardOf (now (slots .entry)) (now (words .entry)) (now (records .entry)) (now (cache .entry)) (now (memory .entry)) (now (pending .exit))) ≡ dropTagCall s (boardOf (now (slots .entry)) (now (words .entry)) (now (records .entry)) (now (cache .entry)) (now (memory .entry)) (now (pending .entry))) ⌝ }
+    ensures { λ r. ⌜ DropTag s (before slots words records cache memory (now (pending .entry))) r (after slots words records cache memory (now (pending .exit))) ⌝ }
 {
     let t = tag_calls::drop_tag(s, slots, words, records, cache, memory, *pending);
     *pending = t.tag;
@@ -35,7 +33,7 @@ pub fn tag(
     pending: &mut Pending,
     name: u64,
 ) -> Answer
-    ensures { λ r. ⌜ outcome r (boardOf (now (slots .entry)) (now (words .entry)) (now (records .entry)) (now (cache .entry)) (now (memory .entry)) (now (pending .exit))) ≡ tagCall s (boardOf (now (slots .entry)) (now (words .entry)) (now (records .entry)) (now (cache .entry)) (now (memory .entry)) (now (pending .entry))) name ⌝ }
+    ensures { λ r. ⌜ Tag s (before slots words records cache memory (now (pending .entry))) name r (after slots words records cache memory (now (pending .exit))) ⌝ }
 {
     let t = tag_calls::tag(s, slots, words, records, cache, memory, *pending, name);
     *pending = t.tag;
@@ -53,7 +51,7 @@ pub fn load_and_map(
     pending: &mut Pending,
     line: usize,
 ) -> Answer
-    ensures { λ r. ⌜ outcome r (boardOf (now (slots .entry)) (now (words .entry)) (now (records .exit)) (now (cache .exit)) (now (memory .exit)) (now (pending .exit))) ≡ loadAndMapCall s (boardOf (now (slots .entry)) (now (words .entry)) (now (records .entry)) (now (cache .entry)) (now (memory .entry)) (now (pending .entry))) line ⌝ }
+    ensures { λ r. ⌜ LoadAndMap s (before slots words records cache memory (now (pending .entry))) line r (after slots words records cache memory (now (pending .exit))) ⌝ }
 {
     let t = load_call::load_and_map(s, slots, words, records, cache, memory, *pending, line);
     *pending = t.tag;

@@ -4,8 +4,7 @@ ghost use Prim.Native.Nat.{_*_, _≤_};
 ghost use lib.ListN.{length};
 ghost use Rattle.address.specs.Layout.{processSlots};
 ghost use Rattle.board.specs.Shapes.{maxProcesses};
-ghost use Rattle.machine.specs.Boards.{board as boardOf, outcome};
-ghost use Rattle.machine.specs.Accesses.{userAccess};
+ghost use Rattle.machine.specs.Contracts.{before, after, UserAccess};
 ghost use Rattle.user_access.specs.Checks.{slotCheck, userCheck};
 use address::Effective;
 use address::Global;
@@ -76,7 +75,7 @@ pub fn user_access(
     a: Access,
     e: Effective,
 ) -> Answer
-    ensures { λ r. ⌜ outcome r (boardOf (now (slots .entry)) (now (words .entry)) (now (records .exit)) (now (cache .exit)) (now (memory .exit)) tag) ≡ userAccess s (boardOf (now (slots .entry)) (now (words .entry)) (now (records .entry)) (now (cache .entry)) (now (memory .entry)) tag) process a e ⌝ }
+    ensures { λ r. ⌜ UserAccess s (before slots words records cache memory tag) process a e r (after slots words records cache memory tag) ⌝ }
 {
     if board::fits(
         s,

@@ -9,7 +9,7 @@ use Rattle.reach.proofs.way_to.Tie as tie
 pub way-to-spec : {M : Type 1} → statement M
 way-to-spec =
     tie.close (tie.spec
-    (search needs) (search needs)
+    (search needs) (search needs) (search needs)
     (λ c κs. omega (arith, holder-inside _ _ _ _ _ (c .before .before .before .holder-of .ensures) (c .before .i .given .1) (search needs) (search needs)))
     (search needs) (search needs) (search needs) (search needs)
     (λ c. search (needs, way-at))

@@ -1,14 +1,14 @@
+-- `region` goes by the prefix: one law a return.
+use Rattle.address.proofs.Regions.{region-uncached, region-cached, region-table, region-ordinary}
 use borrow.Author.Needs.{needs}
-use Rattle.address.specs.Addresses.{regionOf}
-use Rattle.address.proofs.Tests.{tests}
 use Rattle.address.proofs.Global.region.Statement.{statement}
 use Rattle.address.proofs.Global.region.Tie as tie
 
 pub region-spec : {M : Type 1} → statement M
-unfolding regionOf
 region-spec =
     tie.close (tie.spec
-    (λ c. search (needs, tests))
-    (λ c. search (needs, tests))
-    (λ c. search (needs, tests))
-    (λ c. search (needs, tests)))
+    (search needs)
+    (λ c. search (needs, region-uncached))
+    (λ c. search (needs, region-cached))
+    (λ c. search (needs, region-table))
+    (λ c. search (needs, region-ordinary)))
