@@ -69,23 +69,24 @@ pub fn line_access(
     requires { ⌜ Sized s (now records) (now cache) (now memory) × (length (now words) ≡ s .frames) × Width (a .width) × (g .0 % lineBytes + a .width ≤ lineBytes) ⌝ }
     ensures { λ r. ⌜ reached r (now (records .exit)) (now (cache .exit)) (now (memory .exit)) ≡ lineAccess s (now (words .entry)) g user a (storeOf (now (records .entry)) (now (cache .entry)) (now (memory .entry))) ⌝ }
 {
-    let offset = (g.0 % LINE_BYTES) as usize;
+    let name = g.name();
+    let lines = s.lines;
+    let place = lines::place_of(lines, name);
     match reach::way_to(s, words, records, g) {
         Way::Missing => numbered(8),
         Way::Held(i, write) => {
             if user & (a.store & !write) {
                 return numbered(9);
             }
+            let offset = (g.0 % LINE_BYTES) as usize;
             perform_on(records, cache, memory, i, offset, a, 1)
         }
         Way::InMemory(line, write) => {
             if user & (a.store & !write) {
                 return numbered(9);
             }
-            let name = g.name();
-            let lines = s.lines;
-            let place = lines::place_of(lines, name);
             stores::insert(s, records, cache, memory, place, name, line, write);
+            let offset = (g.0 % LINE_BYTES) as usize;
             perform_on(records, cache, memory, place, offset, a, 0)
         }
     }

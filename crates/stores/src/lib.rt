@@ -23,8 +23,8 @@ pub fn write_back(s: Shape, records: &[u64], cache: &[u8], memory: &mut [u8], i:
     ensures { λ _. ⌜ storeOf (now (records .entry)) (now (cache .entry)) (now (memory .exit)) ≡ writtenBack 1 s i (storeOf (now (records .entry)) (now (cache .entry)) (now (memory .entry))) ⌝ }
 {
     let l = lines::line_at(records, i);
-    if lines::holds(s, i, l) {
-        if l.changed {
+    if l.changed {
+        if lines::holds(s, i, l) {
             line_bytes::copy_line(memory, l.physical as usize, cache, i);
         }
     }
