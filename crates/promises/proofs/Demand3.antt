@@ -39,6 +39,7 @@ module _ (R : Board → List ℕ → Type 0) (s : Shape) (stepped : (b : Board) 
       record {
         same-replies = replies-to R s stepped process b m ks x ∙ q .same-replies ∙ sym (replies-to R s stepped process b m ls x);
         plain-replies = replies-to R s stepped process b m ks x;
+        plain-replies-second = replies-to R s stepped process b m ls x;
         same-map = sym words-k ∙ q .same-words ∙ words-l;
         same-bytes = λ page frame line e g d.
             look-after R s stepped shown asked b m ks line x

@@ -90,8 +90,9 @@ segmentOfPage page = page / (segmentBytes / pageBytes)
 pub record SameForProcess (s : Shape) (b : Board) (ks ls : List Call) (process : ℕ) : Type 0 where
   -- our process gets the same answers and values
   pub same-replies : repliesTo process s b ks ≡ repliesTo process s b ls
-  -- and they are those of the plain machine (the second run's are then the same)
+  -- and in each run they are those that the plain machine gives in that run
   pub plain-replies : repliesTo process s b ks ≡ plainRepliesTo process s (plainOf b (b .store .memory)) ks
+  pub plain-replies-second : repliesTo process s b ls ≡ plainRepliesTo process s (plainOf b (b .store .memory)) ls
   -- at the end the page map is the same, and the same bytes, read through the cache, stand in every mapped page of every segment
   -- that the process holds at any moment of the run
   pub same-map : after s b ks .words ≡ after s b ls .words
