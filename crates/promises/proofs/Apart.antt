@@ -12,8 +12,8 @@ use Rattle.board.specs.declared.Found.the-variants.{At}
 use Rattle.board.proofs.Bools.{or-left, or-right}
 use Rattle.promises.specs.Plain.{Plain, plainLook}
 use Rattle.promises.specs.Runs.{Call, user, supervisor, plainReply, plainStep, plainAfter}
-use Rattle.promises.specs.Demand3.{holds, holdsForWriting, withoutOthers, SameFor, plainRepliesTo, segmentOfPage}
-use Rattle.promises.proofs.Views.{AlikeIn, alike-step, alike-aside, alike-reply, alike-look, alike-slots, alike-words, alike-same}
+use Rattle.promises.specs.Demand3.{holds, holdsForWriting, ApartIn, withoutOthers, SameFor, plainRepliesTo, segmentOfPage}
+use Rattle.promises.proofs.Views.{AlikeIn, alike-step, alike-aside, alike-reply, alike-look, alike-words, alike-same}
 
 -- ---- what is held at some moment of a plain run
 
@@ -21,12 +21,9 @@ unfoldable pub plainEver : (List ℕ → Bool) → Shape → Plain → List Call
 plainEver test s p [] = test (p .slots)
 plainEver test s p (k ∷ ks) = test (p .slots) || plainEver test s (plainStep s p k .after) ks
 
--- no segment that the process holds at any moment is held for writing by another process at any moment
+-- the premise, of a plain run
 abbrev pub PlainApart : Shape → Plain → List Call → ℕ → Type 0
-PlainApart s p ks process =
-    (segment other : ℕ) → other < s .processes → (other ≡ process → ⊥)
-    → plainEver (λ slots. holds slots process segment) s p ks ≡ true
-    → plainEver (λ slots. holdsForWriting slots other segment) s p ks ≡ true → ⊥
+PlainApart s p ks process = ApartIn (λ test. plainEver test s p ks) s process
 
 -- what two runs from one machine have in common for a process
 pub record PlainSame (s : Shape) (p : Plain) (ks ls : List Call) (process : ℕ) : Type 0 where
@@ -38,17 +35,6 @@ pub record PlainSame (s : Shape) (p : Plain) (ks ls : List Call) (process : ℕ)
 
 -- ---- moments
 
-or-self : (a : Bool) → (a || a) ≡ a
-or-self true = refl
-or-self false = refl
-
-or-twice : (a b : Bool) → (a || (a || b)) ≡ (a || b)
-or-twice true b = refl
-or-twice false b = refl
-
-abbrev NoSegment : ℕ → Bool
-NoSegment segment = false
-
 module _ (test : List ℕ → Bool) (s : Shape) where
   ever-now : (p : Plain) (ks : List Call) → test (p .slots) ≡ true → plainEver test s p ks ≡ true
   unfolding plainEver
@@ -58,34 +44,6 @@ module _ (test : List ℕ → Bool) (s : Shape) where
   ever-later : (p : Plain) (k : Call) (ks : List Call) → plainEver test s (plainStep s p k .after) ks ≡ true → plainEver test s p (k ∷ ks) ≡ true
   unfolding plainEver
   ever-later p k ks h = or-right (test (p .slots)) (plainEver test s (plainStep s p k .after) ks) h
-
-  -- the first moment counts once
-  ever-again : (p : Plain) (ks : List Call) → (test (p .slots) || plainEver test s p ks) ≡ plainEver test s p ks
-  unfolding plainEver
-  ever-again p [] = or-self (test (p .slots))
-  ever-again p (k ∷ ks) = or-twice (test (p .slots)) (plainEver test s (plainStep s p k .after) ks)
-
-  -- the accesses of others change no slots, words or tag, so they make no moment
-  ever-without : (process : ℕ) (p q : Plain) (ks : List Call) → AlikeIn NoSegment s p q → plainEver test s p ks ≡ plainEver test s q (withoutOthers process ks)
-  unfolding plainEver withoutOthers
-  ever-without process p q [] h = rw (alike-slots NoSegment s p q h)
-  ever-without process p q (supervisor c ∷ ks) h =
-      let later = ever-without process (plainStep s p (supervisor c) .after) (plainStep s q (supervisor c) .after) ks (alike-step NoSegment s p q h (supervisor c)) in
-      rw (later, alike-slots NoSegment s p q h)
-  ever-without process p q (user u a e ∷ ks) h =
-      go (eqb u process)
-      (ever-without process (plainStep s p (user u a e) .after) (plainStep s q (user u a e) .after) ks (alike-step NoSegment s p q h (user u a e)))
-      (ever-without process (plainStep s p (user u a e) .after) q ks (alike-aside NoSegment s p q h u a e (λ segment b c. refl)))
-    where
-      go : (t : Bool) → plainEver test s (plainStep s p (user u a e) .after) ks ≡ plainEver test s (plainStep s q (user u a e) .after) (withoutOthers process ks)
-          → plainEver test s (plainStep s p (user u a e) .after) ks ≡ plainEver test s q (withoutOthers process ks)
-          → (test (p .slots) || plainEver test s (plainStep s p (user u a e) .after) ks) ≡ plainEver test s q (cond t (user u a e ∷ withoutOthers process ks) (withoutOthers process ks))
-      go true both one = rw (both, alike-slots NoSegment s p q h)
-      go false both one = rw (one, alike-slots NoSegment s p q h) (ever-again q (withoutOthers process ks))
-
-  ever-same : (process : ℕ) (p : Plain) (ks ls : List Call) → SameFor process ks ls → plainEver test s p ks ≡ plainEver test s p ls
-  ever-same process p ks ls e =
-      ever-without process p p ks (alike-same NoSegment s p) ∙ ap (plainEver test s p) e ∙ sym (ever-without process p p ls (alike-same NoSegment s p))
 
 -- ---- a run, and the run without the accesses of the others
 
@@ -140,7 +98,9 @@ module _ (S : ℕ → Bool) (s : Shape) (process : ℕ) where
 
 -- ---- demand 3 on the plain machine
 
-module _ (s : Shape) (p : Plain) (ks ls : List Call) (process : ℕ) (same : SameFor process ks ls) (apart : PlainApart s p ks process) where
+-- (that both runs ever hold the same is known of the board: Holding)
+module _ (s : Shape) (p : Plain) (ks ls : List Call) (process : ℕ) (same : SameFor process ks ls)
+    (ever-same : (test : List ℕ → Bool) → plainEver test s p ks ≡ plainEver test s p ls) (apart : PlainApart s p ks process) where
   -- the segments that the process holds at some moment
   abbrev Held : ℕ → Bool
   Held segment = plainEver (λ slots. holds slots process segment) s p ks
@@ -158,8 +118,8 @@ module _ (s : Shape) (p : Plain) (ks ls : List Call) (process : ℕ) (same : Sam
 
   split-second : Split Held s p ls process
   split-second = record {
-    own = λ segment e. ever-same (λ slots. holds slots process segment) s process p ks ls same ∙ e;
-    foreign = λ segment other b d e. held-not segment other b d (ever-same (λ slots. holdsForWriting slots other segment) s process p ks ls same ∙ e);
+    own = λ segment e. ever-same (λ slots. holds slots process segment) ∙ e;
+    foreign = λ segment other b d e. held-not segment other b d (ever-same (λ slots. holdsForWriting slots other segment) ∙ e);
   }
 
   first : Without Held s process p p ks
@@ -180,14 +140,11 @@ module _ (s : Shape) (p : Plain) (ks ls : List Call) (process : ℕ) (same : Sam
   ends-words : End ks .words ≡ End ls .words
   ends-words = alike-words Held s (End ks) Common (first .ends) ∙ sym (alike-words Held s (End ls) Common second-ends)
 
-  ends-same : PlainSame s p ks ls process
-  ends-same = record {
+  pub plain-apart : PlainSame s p ks ls process
+  plain-apart = record {
     same-replies = first .replies ∙ ap (plainRepliesTo process s p) same ∙ sym (second .replies);
     same-words = ends-words;
     same-bytes = λ page frame line i e l.
         alike-look Held s (End ks) Common (first .ends) page frame line i e l
         ∙ sym (alike-look Held s (End ls) Common second-ends page frame line i (rw ends-words at e) l);
   }
-
-pub plain-apart : (s : Shape) (p : Plain) (ks ls : List Call) (process : ℕ) → SameFor process ks ls → PlainApart s p ks process → PlainSame s p ks ls process
-plain-apart s p ks ls process same apart = ends-same s p ks ls process same apart

@@ -1,7 +1,7 @@
 -- Demand 2: the board is the plain machine, from a fresh board and from any sound one.
 -- Stands on RelatedCalls and RelatedAccesses (one call), Lengths and PagesOnce (what stays), Soundness and Follows (runs).
 use Prim.Native.Nat.{ℕ}
-use mathlib.Core.Path.{_≡_, refl}
+use mathlib.Core.Path.{_≡_, refl, _∙_}
 use mathlib.Core.Bool.{Bool, true, false, not, cond}
 use mathlib.Core.List.{List, []}
 use borrow.Author.Tests.{ltb-true}
@@ -20,7 +20,7 @@ use Rattle.page_laws.proofs.Reaching.{look-same}
 use Rattle.promises.proofs.Related.{Related, lengths-same}
 use Rattle.promises.proofs.RelatedCalls.{related-attach, related-detach, related-map, related-unmap, related-protect, related-flush, related-tag, related-load, related-drop}
 use Rattle.promises.proofs.RelatedAccesses.{related-user, related-supervisor}
-use Rattle.promises.proofs.Lengths.{fits-step}
+use Rattle.promises.proofs.Lengths.{fits-same}
 use Rattle.promises.proofs.PagesOnce.{pages-once-step}
 use Rattle.promises.proofs.Soundness.{Stands, sound-of, stands-of, stands-fresh}
 use Rattle.promises.proofs.Follows.{Stepped, ran, alike}
@@ -50,7 +50,7 @@ stepped s b m k x =
     record {
       memory = r .memory;
       given-is = r .given-is;
-      related = record { fits = fits-step s b k (x .fits); pages-once = pages-once-step s b k (x .fits) (x .pages-once); sim = r .sim };
+      related = record { fits = fits-same s s b k ∙ x .fits; pages-once = pages-once-step s b k (x .fits) (x .pages-once); sim = r .sim };
     }
 
 pub look-plain : (s : Shape) (b : Board) (m : List ℕ) (line : ℕ) → Stands s b m → look s b line ≡ plainLook s (plainOf b m) line

@@ -1,10 +1,9 @@
 -- Demand 3: carried from the plain machine (Apart) by demand 2 (Follows).
-use Prim.Native.Nat.{ℕ, _*_, _/_}
+use Prim.Native.Nat.{ℕ, _/_}
 use mathlib.Core.Path.{_≡_, refl, sym, ap, _∙_}
 use mathlib.Core.Bool.{Bool, true, false}
 use mathlib.Core.List.{List, [], _∷_}
 use Rattle.board.specs.declared.Shape.{Shape}
-use Rattle.board.proofs.Bools.{clash}
 use Rattle.machine.specs.Boards.{Board, fitsBoard, Fresh}
 use Rattle.machine.specs.Looks.{lookNumber, look}
 use Rattle.promises.specs.Plain.{Plain, plainLookNumber, plainLook}
@@ -13,6 +12,7 @@ use Rattle.promises.specs.Sound.{LinesOnce}
 use Rattle.promises.specs.Demand3.{holds, holdsForWriting, Apart, SameFor, SameForProcess, OneCopy, Demand3}
 use Rattle.promises.proofs.Soundness.{Stands, fresh-empty, stands-fresh}
 use Rattle.promises.proofs.Apart.{PlainApart, plain-apart}
+use Rattle.promises.proofs.Holding.{ever-same, apart-either}
 use Rattle.promises.proofs.Follows.{Stepped, ran, replies-to, ever-plain, look-after}
 use Rattle.promises.proofs.Demand2.{stepped, look-plain, look-number-plain, Unfit, unfit-call, unfit-stepped, look-unfit, look-number-unfit}
 
@@ -31,7 +31,7 @@ module _ (R : Board → List ℕ → Type 0) (s : Shape) (stepped : (b : Board) 
 
   same-process : (ks ls : List Call) (process : ℕ) → SameFor process ks ls → Apart s b ks process → SameForProcess s b ks ls process
   same-process ks ls process f h =
-      let q = plain-apart s (plainOf b m) ks ls process f (plain-premise ks process h) in
+      let q = plain-apart s (plainOf b m) ks ls process f (λ test. sym (ever-plain R s stepped test b m ks x) ∙ ever-same test s process b ks ls f ∙ ever-plain R s stepped test b m ls x) (plain-premise ks process h) in
       let k = ran R s stepped b m ks x in
       let l = ran R s stepped b m ls x in
       let words-k : plainAfter s (plainOf b m) ks .words ≡ after s b ks .words = ap (λ (p : Plain). p .words) (k .plain-is) in
@@ -63,6 +63,7 @@ one-copy s b x ks = go (fitsBoard s b) refl
 pub demand3 : Demand3
 demand3 = record {
   apart = λ s b x ks ls process f h. go s b x ks ls process f h (fitsBoard s b) refl;
+  apart-either = apart-either;
   one-copy = one-copy;
 }
   where

@@ -1,8 +1,8 @@
--- Every call keeps the lengths of the lists, so a board that fits still fits.
+-- Every call keeps the lengths of the lists, so numbers that fit still fit, and others still don't.
 -- Stands on the length laws of `line_bytes` and `lines`, Steps (a write-back) and Sweeps (the visits).
 use Prim.Native.Nat.{ℕ}
 use mathlib.Core.Path.{_≡_, _∙_, refl, ap}
-use mathlib.Core.Bool.{Bool, true}
+use mathlib.Core.Bool.{Bool}
 use mathlib.Core.List.{List}
 use lib.ListN.{length, set, length-set}
 use Rattle.address.specs.declared.Global.{Global}
@@ -123,8 +123,8 @@ record SameLengths (b c : Board) : Type 0 where
 lengths-refl : (b : Board) → SameLengths b b
 lengths-refl b = record { slots = refl; words = refl; store = sizes-refl (b .store) }
 
-lengths-fit : (s : Shape) (b c : Board) → SameLengths b c → fitsBoard s b ≡ true → fitsBoard s c ≡ true
-lengths-fit s b c l h = rw (l .slots, l .words, l .store .records, l .store .cache, l .store .memory) h
+lengths-fit : (s : Shape) (b c : Board) → SameLengths b c → fitsBoard s c ≡ fitsBoard s b
+lengths-fit s b c l = rw (l .slots, l .words, l .store .records, l .store .cache, l .store .memory)
 
 -- what a table gives has the lengths of the board if what is done has
 module _ (s : Shape) (b : Board) where
@@ -160,5 +160,6 @@ module _ (s : Shape) (b : Board) where
   lengths-step (user process a e) = lengths-table _ _ (lengths-store _ (sizes-accessed s a (b .store) (b .words) _))
   lengths-step (supervisor c) = lengths-supervise c
 
-pub fits-step : (s : Shape) (b : Board) (k : Call) → fitsBoard s b ≡ true → fitsBoard s (step s b k .after) ≡ true
-fits-step s b k h = lengths-fit s b (step s b k .after) (lengths-step s b k) h
+-- whatever numbers t are asked for, and whatever numbers s the call brings
+pub fits-same : (t s : Shape) (b : Board) (k : Call) → fitsBoard t (step s b k .after) ≡ fitsBoard t b
+fits-same t s b k = lengths-fit t b (step s b k .after) (lengths-step s b k)

@@ -4,6 +4,7 @@ pub mod Related
 pub mod RelatedCalls
 pub mod RelatedAccesses
 pub mod Lengths
+pub mod Holding
 pub mod PagesOnce
 pub mod Soundness
 -- two plain machines

@@ -2,11 +2,11 @@
 -- Stands on Sim, Bytes, Held and Zeroed.
 use Prim.Native.Nat.{ℕ, _+_, _*_}
 use mathlib.Core.Path.{_≡_, refl, sym, ap, _∙_}
-use mathlib.Core.Bool.{true, false}
+use mathlib.Core.Bool.{true}
 use mathlib.Core.List.{List}
 use native.Mathlib.Omega.{arith}
 use native.Mathlib.Nat.{div-one}
-use lib.ListN.{getD, replicate}
+use lib.ListN.{getD}
 use Rattle.pages.specs.Pages.{homeOf, namesPage}
 use Rattle.board.specs.declared.Shape.{Shape}
 use Rattle.board.specs.declared.Found.{Found}

@@ -289,9 +289,6 @@ module _ (S : ℕ → Bool) (s : Shape) (p q : Plain) (h : AlikeIn S s p q) wher
       → plainLook s p line ≡ plainLook s q line
   alike-look page frame line i e l = rw (h .same-rest) (view-look S s p (q .memory) (h .view) page frame line i e l)
 
-  pub alike-slots : p .slots ≡ q .slots
-  alike-slots = sym (ap (λ (x : Plain). x .slots) (h .same-rest))
-
   pub alike-words : p .words ≡ q .words
   alike-words = sym (ap (λ (x : Plain). x .words) (h .same-rest))
 

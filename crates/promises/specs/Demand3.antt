@@ -9,7 +9,6 @@ use Rattle.address.specs.Layout.{segmentBytes, pageBytes, pageLines, processSlo
 use Rattle.slots.specs.Slots.{slotIndex, slotSegment, slotWrites, slotEmpty}
 use Rattle.pages.specs.Pages.{mappedTo}
 use Rattle.board.specs.declared.Shape.{Shape}
-use Rattle.board.specs.declared.Found.{Found}
 use Rattle.board.specs.declared.Found.the-variants.{At}
 use Rattle.machine.specs.Boards.{Board, Fresh}
 use Rattle.machine.specs.Looks.{look}
@@ -49,11 +48,16 @@ everHolds s b ks process segment = atSomeMoment (λ slots. holds slots process s
 abbrev pub everWrites : Shape → Board → List Call → ℕ → ℕ → Bool
 everWrites s b ks process segment = atSomeMoment (λ slots. holdsForWriting slots process segment) s b ks
 
--- no segment that the process holds at any moment of the run is held for writing by another process at any moment of it
-abbrev pub Apart : Shape → Board → List Call → ℕ → Type 0
-Apart s b ks process =
+-- no segment that the process holds at any moment is held for writing by another process at any moment,
+-- of any run, whose question "do the slots pass this test at some moment?" is `ever`
+abbrev pub ApartIn : ((List ℕ → Bool) → Bool) → Shape → ℕ → Type 0
+ApartIn ever s process =
     (segment other : ℕ) → other < s .processes → (other ≡ process → ⊥)
-    → everHolds s b ks process segment ≡ true → everWrites s b ks other segment ≡ true → ⊥
+    → ever (λ slots. holds slots process segment) ≡ true → ever (λ slots. holdsForWriting slots other segment) ≡ true → ⊥
+
+-- of the run of a list of calls
+abbrev pub Apart : Shape → Board → List Call → ℕ → Type 0
+Apart s b ks process = ApartIn (λ test. atSomeMoment test s b ks) s process
 
 -- ---- two runs
 
@@ -100,6 +104,10 @@ pub record SameForProcess (s : Shape) (b : Board) (ks ls : List Call) (process :
       → mappedTo s (after s b ks .words) page ≡ At frame → line / pageLines ≡ frame
       → look s (after s b ks) line ≡ look s (after s b ls) line
 
+-- the premise may be read off either run: of any board at all, if the one meets it, so does the other
+abbrev pub ApartEither : Type 0
+ApartEither = (s : Shape) (b : Board) (ks ls : List Call) (process : ℕ) → SameFor process ks ls → Apart s b ks process → Apart s b ls process
+
 -- at no moment are two cached lines copies of one physical line
 abbrev pub OneCopy : Type 0
 OneCopy = (s : Shape) (b : Board) → Fresh b → (ks : List Call) → LinesOnce s (after s b ks .store)
@@ -107,4 +115,5 @@ OneCopy = (s : Shape) (b : Board) → Fresh b → (ks : List Call) → LinesOnce
 pub record Demand3 : Type 0 where
   pub apart : (s : Shape) (b : Board) → Fresh b → (ks ls : List Call) (process : ℕ)
       → SameFor process ks ls → Apart s b ks process → SameForProcess s b ks ls process
+  pub apart-either : ApartEither
   pub one-copy : OneCopy

@@ -8,7 +8,6 @@ use Rattle.address.specs.Layout.{pageLines}
 use Rattle.address.specs.Addresses.{ordinaryPage}
 use Rattle.pages.specs.Pages.{namesPage, homeOf}
 use Rattle.board.specs.declared.Shape.{Shape}
-use Rattle.board.specs.declared.Home.{Home}
 use Rattle.board.specs.declared.Home.the-variants.{Line}
 use Rattle.line_bytes.specs.Bytes.{lineOf}
 use Rattle.lines.specs.Records.{lineAt}
