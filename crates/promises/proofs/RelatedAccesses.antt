@@ -9,9 +9,10 @@ use lib.ListN.{length, getD}
 use lib.Dec.{leb, ltb}
 use borrow.Author.Tests.{not-false, leb-true, leb-false, ltb-true, le-leb}
 use Rattle.address.specs.Layout.{firstPage, lastPage, firstSegment, lastSegment, pageLines, prefixLines}
-use Rattle.address.specs.Addresses.{attachable, ordinaryPage, pageOf, nameOf, regionOf, physicalOf}
+use Rattle.address.specs.Addresses.{attachable, ordinaryPage, pageOf, nameOf, regionOf, physicalOf, inFrame}
 use Rattle.address.specs.declared.Effective.{Effective}
 use Rattle.address.specs.declared.Global.{Global}
+use Rattle.address.specs.declared.Physical.{Physical}
 use Rattle.address.specs.declared.Region.{Region}
 use Rattle.address.specs.declared.Region.the-variants.{Uncached, Cached, PageTable, Ordinary}
 use Rattle.slots.specs.Slots.{slotSegment}
@@ -71,7 +72,7 @@ module _ (s : Shape) (b : Board) (m : List ℕ) (fits : fitsBoard s b ≡ true) 
 
   module _ (g : Global) (a : Access) (inside : g .0 % 16 + a .width ≤ 16) where
     -- a done access to a line that has a home
-    related-access : (p : ℕ) (w : Bool) (at : ℕ) → homeOf s (b .words) (nameOf g) ≡ Line p w → at ≡ 16 * p + g .0 % 16
+    related-access : (p : ℕ) (w : Bool) (at : Physical) → homeOf s (b .words) (nameOf g) ≡ Line p w → at .0 ≡ 16 * p + g .0 % 16
         → Related s (onBoard b (accessed s (b .words) g a (b .store))) (plainAccess (plainOf b m) at a)
     unfolding plainAccess
     related-access p w at h q =
@@ -83,7 +84,7 @@ module _ (s : Shape) (b : Board) (m : List ℕ) (fits : fitsBoard s b ≡ true) 
         → Related s (byTable (refused b) (row 8 (unreached (wayTo s (b .words) (b .store .records) g))
         ∷ row 9 (user && (a .store && not (mayWrite (wayTo s (b .words) (b .store .records) g)))) ∷ []) (onBoard b (accessed s (b .words) g a (b .store))))
         (byTable (plainRefused (plainOf b m)) (row 8 (not (isMapped found)) ∷ row 9 (user && (a .store && not (wordWrites (getD (b .words) (foundFrame found) 0)))) ∷ [])
-        (plainAccess (plainOf b m) (foundFrame found * 4096 + g .0 % 4096) a))
+        (plainAccess (plainOf b m) (inFrame (foundFrame found) g) a))
     unfolding byTable isMapped foundFrame
     related-line user Nothing o q =
         let z : g .0 / 16 / pageLines ≡ g .0 / 4096 = omega arith in
@@ -94,7 +95,7 @@ module _ (s : Shape) (b : Board) (m : List ℕ) (fits : fitsBoard s b ≡ true) 
         let h = mapped-home s (b .words) (nameOf g) f (rw z q) in
         rw (way-reached s (b .words) x g _ _ h, way-writes s (b .words) x g _ _ h)
         (related-row s b m x 9 (user && (a .store && not (wordWrites (getD (b .words) f 0)))) _ _
-        (λ _. related-access (f * pageLines + nameOf g % pageLines) (wordWrites (getD (b .words) f 0)) (f * 4096 + g .0 % 4096) h (omega arith)))
+        (λ _. related-access (f * pageLines + nameOf g % pageLines) (wordWrites (getD (b .words) f 0)) (inFrame f g) h (omega arith)))
 
   -- ---- a user access
 
@@ -134,7 +135,7 @@ module _ (s : Shape) (b : Board) (m : List ℕ) (fits : fitsBoard s b ≡ true) 
   module _ (g : Global) (a : Access) (inside : g .0 % 16 + a .width ≤ 16) (below : g .0 < 2 ^ 44) where
     -- memory below U, past the cache
     related-memory : (physicalOf g .0) / 4096 < s .uncached → (t : Bool) → a .store ≡ t
-        → Related s (onBoard b (memoryAccess (physicalOf g) a (b .store))) (plainAccess plain (physicalOf g .0) a)
+        → Related s (onBoard b (memoryAccess (physicalOf g) a (b .store))) (plainAccess plain (physicalOf g) a)
     unfolding memoryAccess plainAccess
     related-memory u true t =
         rw t (related-done s b m x _ (withStore b _) _
@@ -153,7 +154,7 @@ module _ (s : Shape) (b : Board) (m : List ℕ) (fits : fitsBoard s b ≡ true) 
         related-row s b m x 10 (wordInUse (b .words) (frameUnder g)) _ _ λ h.
         related-row s b m x 12 (leb (s .frames) (frameUnder g) || ltb (frameUnder g) (s .uncached)) _ _ λ k.
         let c = region-cached g q in
-        related-access g a inside (nameOf g % prefixLines) true (physicalOf g .0) (sym (prefix-home s (b .words) g c h k)) (omega arith)
+        related-access g a inside (nameOf g % prefixLines) true (physicalOf g) (sym (prefix-home s (b .words) g c h k)) (omega arith)
     related-region Ordinary q =
         related-line g a inside false (mappedTo s (b .words) (pageOf g)) (region-ordinary g q below) refl
 

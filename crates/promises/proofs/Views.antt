@@ -13,6 +13,7 @@ use Rattle.address.specs.Layout.{pageLines}
 use Rattle.address.specs.Addresses.{pageOf, regionOf, ordinaryPage}
 use Rattle.address.specs.declared.Effective.{Effective}
 use Rattle.address.specs.declared.Global.{Global}
+use Rattle.address.specs.declared.Physical.{Physical}
 use Rattle.address.specs.declared.Region.{Region}
 use Rattle.address.specs.declared.Region.the-variants.{Uncached, Cached, PageTable, Ordinary}
 use Rattle.slots.specs.Slots.{slotSegment}
@@ -107,13 +108,13 @@ module _ (S : ℕ → Bool) (s : Shape) (p : Plain) (n : List ℕ) (v : View S s
       → AlikeIn S s (byTable (plainRefused p) (plainRow1 s p ∷ rows) x .after) (byTable (plainRefused q) (plainRow1 s q ∷ rows) y .after)
   view-table = view-tables (λ (x y : Given). AlikeIn S s (x .after) (y .after)) (plainRefused p) (plainRefused q) (λ k. view-now)
 
-  view-access : Facts → (at : ℕ) (a : Access) → AlikeIn S s (plainAccess p at a .after) (plainAccess q at a .after)
+  view-access : Facts → (at : Physical) (a : Access) → AlikeIn S s (plainAccess p at a .after) (plainAccess q at a .after)
   unfolding plainAccess
   view-access f at a = go (a .store)
     where
-      go : (t : Bool) → AlikeIn S s (cond t (given 0 0 (withMemory p (stored (p .memory) at (a .width) (a .value)))) (given 0 (number (p .memory) at (a .width)) p) .after)
-          (cond t (given 0 0 (withMemory q (stored n at (a .width) (a .value)))) (given 0 (number n at (a .width)) q) .after)
-      go true = record { same-rest = refl; view = view-stored S s (p .words) (p .memory) n at (a .width) (a .value) (f .memory-is) v }
+      go : (t : Bool) → AlikeIn S s (cond t (given 0 0 (withMemory p (stored (p .memory) (at .0) (a .width) (a .value)))) (given 0 (number (p .memory) (at .0) (a .width)) p) .after)
+          (cond t (given 0 0 (withMemory q (stored n (at .0) (a .width) (a .value)))) (given 0 (number n (at .0) (a .width)) q) .after)
+      go true = record { same-rest = refl; view = view-stored S s (p .words) (p .memory) n (at .0) (a .width) (a .value) (f .memory-is) v }
       go false = view-now
 
   view-user : (process : ℕ) (a : Access) (e : Effective) → AlikeIn S s (plainUser s p process a e .after) (plainUser s q process a e .after)
@@ -188,10 +189,10 @@ module _ (S : ℕ → Bool) (s : Shape) (p : Plain) (n : List ℕ) (v : View S s
     abbrev g : Global
     g = userGlobal (p .slots) other e
 
-    view-stored-aside : Admitted s p other a e → S (segmentOfPage (pageOf g)) ≡ false → View S s (p .words) (stored (p .memory) (addressAt s p g) (a .width) (a .value)) n
+    view-stored-aside : Admitted s p other a e → S (segmentOfPage (pageOf g)) ≡ false → View S s (p .words) (stored (p .memory) (addressAt s p g .0) (a .width) (a .value)) n
     view-stored-aside r h = record {
       same-length = length-stored _ _ _ _ ∙ v .same-length;
-      agree = λ x page f b o i k. stored-out (p .memory) (addressAt s p g) (a .width) (a .value) x
+      agree = λ x page f b o i k. stored-out (p .memory) (addressAt s p g .0) (a .width) (a .value) x
           (λ low high.
           let z : x / 4096 ≡ addressFrame s p g = omega (arith, r .room) in
           let d = names-word (getD (p .words) (x / 4096) 0) page i in
@@ -206,7 +207,7 @@ module _ (S : ℕ → Bool) (s : Shape) (p : Plain) (n : List ℕ) (v : View S s
     view-aside-done h k = go (a .store) refl
       where
         go : (t : Bool) → a .store ≡ t
-            → AlikeIn S s (cond t (given 0 0 (withMemory p (stored (p .memory) (addressAt s p g) (a .width) (a .value)))) (given 0 (number (p .memory) (addressAt s p g) (a .width)) p) .after) q
+            → AlikeIn S s (cond t (given 0 0 (withMemory p (stored (p .memory) (addressAt s p g .0) (a .width) (a .value)))) (given 0 (number (p .memory) (addressAt s p g .0) (a .width)) p) .after) q
         go true t = record { same-rest = refl; view = view-stored-aside (admitted s p other a e h) (k t (admitted s p other a e h)) }
         go false t = view-now
 
@@ -224,19 +225,19 @@ module _ (S : ℕ → Bool) (s : Shape) (p : Plain) (n : List ℕ) (v : View S s
     own = userGlobal (p .slots) process e
 
     view-byte : Admitted s p process a e → S (segmentOfPage (pageOf own)) ≡ true → (i : ℕ) → i < a .width
-        → getD (p .memory) (addressAt s p own + i) 0 ≡ getD n (addressAt s p own + i) 0
+        → getD (p .memory) (addressAt s p own .0 + i) 0 ≡ getD n (addressAt s p own .0 + i) 0
     view-byte r k i h =
-        let z : (addressAt s p own + i) / 4096 ≡ addressFrame s p own = omega (arith, r .room) in
+        let z : (addressAt s p own .0 + i) / 4096 ≡ addressFrame s p own = omega (arith, r .room) in
         let b : addressFrame s p own < s .frames = omega (arith, r .mapped .inside, r .facts .words-are) in
-        v .agree (addressAt s p own + i) (pageOf own) (rw z (r .mapped .from)) (rw z b) (r .mapped .ordinary) (rw z (r .mapped .names)) k
+        v .agree (addressAt s p own .0 + i) (pageOf own) (rw z (r .mapped .from)) (rw z b) (r .mapped .ordinary) (rw z (r .mapped .names)) k
 
-    view-done : number (p .memory) (addressAt s p own) (a .width) ≡ number n (addressAt s p own) (a .width)
+    view-done : number (p .memory) (addressAt s p own .0) (a .width) ≡ number n (addressAt s p own .0) (a .width)
         → plainReply (plainAccess p (addressAt s p own) a) ≡ plainReply (plainAccess q (addressAt s p own) a)
     unfolding plainAccess
     view-done h = go (a .store)
       where
-        go : (t : Bool) → plainReply (cond t (given 0 0 (withMemory p (stored (p .memory) (addressAt s p own) (a .width) (a .value)))) (given 0 (number (p .memory) (addressAt s p own) (a .width)) p))
-            ≡ plainReply (cond t (given 0 0 (withMemory q (stored n (addressAt s p own) (a .width) (a .value)))) (given 0 (number n (addressAt s p own) (a .width)) q))
+        go : (t : Bool) → plainReply (cond t (given 0 0 (withMemory p (stored (p .memory) (addressAt s p own .0) (a .width) (a .value)))) (given 0 (number (p .memory) (addressAt s p own .0) (a .width)) p))
+            ≡ plainReply (cond t (given 0 0 (withMemory q (stored n (addressAt s p own .0) (a .width) (a .value)))) (given 0 (number n (addressAt s p own .0) (a .width)) q))
         go true = refl
         go false = rw h
 
@@ -248,7 +249,7 @@ module _ (S : ℕ → Bool) (s : Shape) (p : Plain) (n : List ℕ) (v : View S s
         view-tables (λ (x y : Given). plainReply x ≡ plainReply y) (plainRefused p) (plainRefused q) (λ _. refl) _ _ _
         (λ h.
         let r = admitted s p process a e h in
-        view-done (number-same (p .memory) n (addressAt s p own) (addressAt s p own) (a .width)
+        view-done (number-same (p .memory) n (addressAt s p own .0) (addressAt s p own .0) (a .width)
         (view-byte r (rw (r .segment-is) (k (slotSegment (slotWordAt (p .slots) process e)) (admitted-holds s p process a e r))))))
 
   -- ---- the bytes of a page of a segment of S

@@ -1,14 +1,14 @@
 -- The plain machine: segment slots, a page map, a pending tag and flat memory, and no cache.
 -- Slot words, frame words, the tag, numbers in bytes and the tests of single rows are the board's own definitions.
 -- What an access asks and does, and what map, unmap, protect, flush all and load-and-map leave, is written here from 01's text.
-use Prim.Native.Nat.{ℕ, _+_, _*_, _%_}
+use Prim.Native.Nat.{ℕ}
 use mathlib.Core.Bool.{Bool, not, _&&_, cond}
 use mathlib.Core.List.{List, [], _∷_}
 use lib.ListN.{length, getD, set}
-use Rattle.address.specs.Layout.{pageBytes}
-use Rattle.address.specs.Addresses.{slotOf, globalOf, pageOf, regionOf, physicalOf, isKernels, attachable}
+use Rattle.address.specs.Addresses.{physical, slotOf, globalOf, pageOf, regionOf, physicalOf, inFrame, isKernels, attachable}
 use Rattle.address.specs.declared.Effective.{Effective}
 use Rattle.address.specs.declared.Global.{Global}
+use Rattle.address.specs.declared.Physical.{Physical}
 use Rattle.address.specs.declared.Region.{Region}
 use Rattle.address.specs.declared.Region.the-variants.{Uncached, Cached, PageTable, Ordinary}
 use Rattle.board.specs.Shapes.{fitsShape}
@@ -66,18 +66,18 @@ plainWords p words m = record { slots = p .slots; words = words; tag = p .tag; m
 
 -- ---- accesses: a load or a store of flat memory
 
-unfoldable pub plainAccess : Plain → ℕ → Access → Given
+unfoldable pub plainAccess : Plain → Physical → Access → Given
 plainAccess p at a =
     cond (a .store)
-    (given 0 0 (withMemory p (stored (p .memory) at (a .width) (a .value))))
-    (given 0 (number (p .memory) at (a .width)) p)
+    (given 0 0 (withMemory p (stored (p .memory) (at .0) (a .width) (a .value))))
+    (given 0 (number (p .memory) (at .0) (a .width)) p)
 
--- the frame that an ordinary address's page is mapped to, and where the address lies in memory
+-- the frame that an ordinary address's page is mapped to, and the physical address
 abbrev pub addressFrame : Shape → Plain → Global → ℕ
 addressFrame s p g = foundFrame (mappedTo s (p .words) (pageOf g))
 
-abbrev pub addressAt : Shape → Plain → Global → ℕ
-addressAt s p g = addressFrame s p g * pageBytes + g .0 % pageBytes
+abbrev pub addressAt : Shape → Plain → Global → Physical
+addressAt s p g = inFrame (addressFrame s p g) g
 
 abbrev pub addressMapped : Shape → Plain → Global → Bool
 addressMapped s p g = isMapped (mappedTo s (p .words) (pageOf g))
@@ -108,11 +108,11 @@ plainUser s p process a e =
     ∷ [])
     (plainAccess p (addressAt s p (plainGlobal p process e)) a)
 
--- where a supervisor's address lies in memory (the page table region has been refused by row 12)
-unfoldable pub supervisorAt : Shape → Plain → Global → Region → ℕ
-supervisorAt s p g Uncached = physicalOf g .0
-supervisorAt s p g Cached = physicalOf g .0
-supervisorAt s p g PageTable = 0
+-- the physical address of a supervisor's address (the page table region has been refused by row 12)
+unfoldable pub supervisorAt : Shape → Plain → Global → Region → Physical
+supervisorAt s p g Uncached = physicalOf g
+supervisorAt s p g Cached = physicalOf g
+supervisorAt s p g PageTable = physical 0
 supervisorAt s p g Ordinary = addressAt s p g
 
 unfoldable pub plainSupervisor : Shape → Plain → Access → Global → Given
