@@ -4,15 +4,17 @@ use mathlib.Core.Path.{_≡_, refl, sym, ap, _∙_}
 use mathlib.Core.Bool.{Bool, true, false}
 use mathlib.Core.List.{List, [], _∷_}
 use Rattle.board.specs.declared.Shape.{Shape}
+use Rattle.board.proofs.Bools.{clash}
 use Rattle.machine.specs.Boards.{Board, fitsBoard, Fresh}
 use Rattle.machine.specs.Looks.{lookNumber, look}
 use Rattle.promises.specs.Plain.{Plain, plainLookNumber, plainLook}
 use Rattle.promises.specs.Runs.{Call, after, plainAfter, plainOf}
 use Rattle.promises.specs.Sound.{LinesOnce}
-use Rattle.promises.specs.Demand3.{holds, holdsForWriting, Apart, SameFor, SameForProcess, OneCopy, Demand3}
+use Rattle.promises.specs.Demand3.{holds, holdsForWriting, Apart, SameFor, SameForProcess, OneCopy, EveryValidHolds, OneCopyValid, Demand3}
 use Rattle.promises.proofs.Soundness.{Stands, fresh-empty, stands-fresh}
 use Rattle.promises.proofs.Apart.{PlainApart, plain-apart}
 use Rattle.promises.proofs.Holding.{ever-same, apart-either}
+use Rattle.promises.proofs.Valid.{valid-holds-stays}
 use Rattle.promises.proofs.Follows.{Stepped, ran, replies-to, ever-plain, look-after}
 use Rattle.promises.proofs.Demand2.{stepped, look-plain, look-number-plain, Unfit, unfit-call, unfit-stepped, look-unfit, look-number-unfit}
 
@@ -60,11 +62,19 @@ one-copy s b x ks = go (fitsBoard s b) refl
     go true t = ran (Stands s) s (stepped s) b (b .store .memory) ks (stands-fresh s b x t) .related .sim .once
     go false t = λ i j a c q. absurd (fresh-empty s b x i (rw (unfit-after s b t ks) at a))
 
+pub every-valid-holds : EveryValidHolds
+every-valid-holds s b x ks = valid-holds-stays s b (λ i v. clash _ v (x .no-line i)) ks
+
+pub one-copy-valid : OneCopyValid
+one-copy-valid s b x ks i j v w = let h = every-valid-holds s b x ks in one-copy s b x ks i j (h i v) (h j w)
+
 pub demand3 : Demand3
 demand3 = record {
   apart = λ s b x ks ls process f h. go s b x ks ls process f h (fitsBoard s b) refl;
   apart-either = apart-either;
   one-copy = one-copy;
+  every-valid-holds = every-valid-holds;
+  one-copy-valid = one-copy-valid;
 }
   where
     go : (s : Shape) (b : Board) → Fresh b → (ks ls : List Call) (process : ℕ) → SameFor process ks ls → Apart s b ks process

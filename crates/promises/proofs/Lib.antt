@@ -6,6 +6,7 @@ pub mod RelatedAccesses
 pub mod Lengths
 pub mod Holding
 pub mod PagesOnce
+pub mod Valid
 pub mod Soundness
 -- two plain machines
 pub mod Admitted

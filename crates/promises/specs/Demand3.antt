@@ -14,7 +14,7 @@ use Rattle.machine.specs.Boards.{Board, Fresh}
 use Rattle.machine.specs.Looks.{look}
 use Rattle.promises.specs.Runs.{Call, user, supervisor, Reply, reply, step, after, plainReply, plainStep, plainOf}
 use Rattle.promises.specs.Plain.{Plain}
-use Rattle.promises.specs.Sound.{LinesOnce}
+use Rattle.promises.specs.Sound.{LinesOnce, ValidHolds, ValidOnce}
 
 -- ---- holding a segment, read off the slots
 
@@ -112,8 +112,22 @@ ApartEither = (s : Shape) (b : Board) (ks ls : List Call) (process : ℕ) → Sa
 abbrev pub OneCopy : Type 0
 OneCopy = (s : Shape) (b : Board) → Fresh b → (ks : List Call) → LinesOnce s (after s b ks .store)
 
+-- every valid record holds a line: on a board of which that is so it stays so, whatever the numbers and calls
+abbrev pub ValidHoldsStays : Type 0
+ValidHoldsStays = (s : Shape) (b : Board) → ValidHolds s (b .store) → (ks : List Call) → ValidHolds s (after s b ks .store)
+
+-- and so it is at every moment from a fresh board
+abbrev pub EveryValidHolds : Type 0
+EveryValidHolds = (s : Shape) (b : Board) → Fresh b → (ks : List Call) → ValidHolds s (after s b ks .store)
+
+-- at no moment, then, do two valid records have one physical line
+abbrev pub OneCopyValid : Type 0
+OneCopyValid = (s : Shape) (b : Board) → Fresh b → (ks : List Call) → ValidOnce (after s b ks .store)
+
 pub record Demand3 : Type 0 where
   pub apart : (s : Shape) (b : Board) → Fresh b → (ks ls : List Call) (process : ℕ)
       → SameFor process ks ls → Apart s b ks process → SameForProcess s b ks ls process
   pub apart-either : ApartEither
   pub one-copy : OneCopy
+  pub every-valid-holds : EveryValidHolds
+  pub one-copy-valid : OneCopyValid

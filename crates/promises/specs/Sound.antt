@@ -55,6 +55,17 @@ pub record Sound (s : Shape) (b : Board) : Type 0 where
 abbrev pub FreshSound : Type 0
 FreshSound = (s : Shape) (b : Board) → Fresh b → ShapeHolds s b → Sound s b
 
+-- every valid record holds a line. No rule of a sound board (a board from elsewhere may have valid records that hold nothing),
+-- but so on a fresh one and after every call
+abbrev pub ValidHolds : Shape → Store → Type 0
+ValidHolds s x = (i : ℕ) → lineAt (x .records) i .valid ≡ true → holdsAt ways s (x .records) i ≡ true
+
+-- no physical line stands in two valid records
+abbrev pub ValidOnce : Store → Type 0
+ValidOnce x =
+    (i j : ℕ) → lineAt (x .records) i .valid ≡ true → lineAt (x .records) j .valid ≡ true
+    → lineAt (x .records) i .physical ≡ lineAt (x .records) j .physical → i ≡ j
+
 -- a flat memory has the bytes that the board shows at every physical line
 pub record Shows (s : Shape) (b : Board) (memory : List ℕ) : Type 0 where
   pub same-length : length memory ≡ length (b .store .memory)

@@ -1,4 +1,4 @@
--- From the bottom up: what a store that stands for a flat memory is, its bytes and records, each step, a visit of all records.
+-- From the bottom up: what a store that stands for a flat memory is, its bytes and records, each step, a visit of all records, and what valid records are.
 pub mod Sim
 pub mod Bytes
 pub mod Zeroed
@@ -6,3 +6,4 @@ pub mod Searches
 pub mod Held
 pub mod Steps
 pub mod Sweeps
+pub mod Valid

@@ -95,7 +95,7 @@ module _ (ways : ℕ) (s : Shape) where
 -- ---- what all the visits make of the records
 
 -- what every visit keeps, a sweep keeps
-sweep-keeps : (f : ℕ → Store → Store) (P : Store → Type 0) → ((i : ℕ) (x : Store) → P x → P (f i x)) → (n i : ℕ) (x : Store) → P x → P (sweep f n i x)
+pub sweep-keeps : (f : ℕ → Store → Store) (P : Store → Type 0) → ((i : ℕ) (x : Store) → P x → P (f i x)) → (n i : ℕ) (x : Store) → P x → P (sweep f n i x)
 unfolding sweep
 sweep-keeps f P h zero i x p = p
 sweep-keeps f P h (suc n) i x p = sweep-keeps f P h n (suc i) (f i x) (h i x p)
