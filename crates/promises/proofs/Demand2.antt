@@ -4,6 +4,7 @@ use Prim.Native.Nat.{ℕ}
 use mathlib.Core.Path.{_≡_, refl, _∙_}
 use mathlib.Core.Bool.{Bool, true, false, not, cond}
 use mathlib.Core.List.{List, []}
+use lib.ListN.{length}
 use borrow.Author.Tests.{ltb-true}
 use Rattle.board.specs.declared.Shape.{Shape}
 use Rattle.line_bytes.specs.Bytes.{lineOf}
@@ -13,7 +14,7 @@ use Rattle.machine.specs.Refusals.{byTable, isPhysicalLine}
 use Rattle.machine.specs.Accesses.{userTable, userAccess, supervisorTable, supervisorAccess}
 use Rattle.machine.specs.Calls as calls
 use Rattle.machine.specs.Looks.{lookNumber, look}
-use Rattle.promises.specs.Plain.{Plain, plainRefused, plainUser, plainSupervisor, plainAttach, plainDetach, plainMap, plainUnmap, plainProtect, plainFlush, plainTagging, plainLoadAndMap, plainDropTag, plainLookNumber, plainLook}
+use Rattle.promises.specs.Plain.{plainRefused, plainUser, plainSupervisor, plainAttach, plainDetach, plainMap, plainUnmap, plainProtect, plainFlush, plainTagging, plainLoadAndMap, plainDropTag, plainLookNumber, plainLook}
 use Rattle.promises.specs.Runs.{Supervisor, access, attach, detach, map, unmap, protect, flushAll, tag, loadAndMap, dropTag, Call, user, supervisor, supervise, step, after, plainSupervise, plainStep, plainOf}
 use Rattle.promises.specs.Demand2.{Alike, Demand2, Demand2Sound}
 use Rattle.page_laws.proofs.Reaching.{look-same}
@@ -76,46 +77,50 @@ demand2-sound s b m x y ks =
 
 pub record Unfit (s : Shape) (b : Board) (m : List ℕ) : Type 0 where
   pub no : fitsBoard s b ≡ false
-  pub memory-is : m ≡ b .store .memory
+  pub same-length : length m ≡ length (b .store .memory)
 
-module _ (s : Shape) (b : Board) (no : fitsBoard s b ≡ false) where
-  abbrev p : Plain
-  p = plainOf b (b .store .memory)
+module _ (s : Shape) (b : Board) (m : List ℕ) (x : Unfit s b m) where
+  abbrev no : fitsBoard s b ≡ false
+  no = x .no
 
-  unfit-supervise : (c : Supervisor) → (supervise s b c ≡ refused b 1) × (plainSupervise s p c ≡ plainRefused p 1)
+  abbrev same : length m ≡ length (b .store .memory)
+  same = x .same-length
+
+  unfit-supervise : (c : Supervisor) → (supervise s b c ≡ refused b 1) × (plainSupervise s (plainOf b m) c ≡ plainRefused (plainOf b m) 1)
   unfolding supervise plainSupervise byTable supervisorAccess supervisorTable plainSupervisor calls.attach calls.detach calls.mapPage calls.unmap calls.protect calls.flushAll calls.tag calls.loadAndMap calls.dropTag plainAttach plainDetach plainMap plainUnmap plainProtect plainFlush plainTagging plainLoadAndMap plainDropTag
-  unfit-supervise (access a g) = (rw no, rw no)
-  unfit-supervise (attach process slot segment write) = (rw no, rw no)
-  unfit-supervise (detach process slot) = (rw no, rw no)
-  unfit-supervise (map page frame write) = (rw no, rw no)
-  unfit-supervise (unmap page) = (rw no, rw no)
-  unfit-supervise (protect page write) = (rw no, rw no)
-  unfit-supervise flushAll = (rw no, rw no)
-  unfit-supervise (tag name) = (rw no, rw no)
-  unfit-supervise (loadAndMap line) = (rw no, rw no)
-  unfit-supervise dropTag = (rw no, rw no)
+  unfit-supervise (access a g) = (rw no, rw (same, no))
+  unfit-supervise (attach process slot segment write) = (rw no, rw (same, no))
+  unfit-supervise (detach process slot) = (rw no, rw (same, no))
+  unfit-supervise (map page frame write) = (rw no, rw (same, no))
+  unfit-supervise (unmap page) = (rw no, rw (same, no))
+  unfit-supervise (protect page write) = (rw no, rw (same, no))
+  unfit-supervise flushAll = (rw no, rw (same, no))
+  unfit-supervise (tag name) = (rw no, rw (same, no))
+  unfit-supervise (loadAndMap line) = (rw no, rw (same, no))
+  unfit-supervise dropTag = (rw no, rw (same, no))
 
-  pub unfit-call : (k : Call) → (step s b k ≡ refused b 1) × (plainStep s p k ≡ plainRefused p 1)
+  pub unfit-call : (k : Call) → (step s b k ≡ refused b 1) × (plainStep s (plainOf b m) k ≡ plainRefused (plainOf b m) 1)
   unfolding step plainStep byTable userAccess userTable plainUser
-  unfit-call (user process a e) = (rw no, rw no)
+  unfit-call (user process a e) = (rw no, rw (same, no))
   unfit-call (supervisor c) = unfit-supervise c
 
-  unfit-same : (k : Call) → Stepped (Unfit s) s b (b .store .memory) k
-  unfit-same k =
+  -- so whatever relates the two machines still does
+  pub unfit-keeps : (R : Board → List ℕ → Type 0) (k : Call) → R b m → Stepped R s b m k
+  unfit-keeps R k r =
       let q = unfit-call k in
       let z = q .0 in
-      record { memory = b .store .memory; given-is = rw (q .0, q .1); related = rw z (record { no = no; memory-is = refl }) }
+      record { memory = m; given-is = rw (q .0, q .1); related = rw z r }
 
 pub unfit-stepped : (s : Shape) (b : Board) (m : List ℕ) (k : Call) → Unfit s b m → Stepped (Unfit s) s b m k
-unfit-stepped s b m k x = rw (x .memory-is) (unfit-same s b (x .no) k)
+unfit-stepped s b m k x = unfit-keeps s b m x (Unfit s) k x
 
 pub look-unfit : (s : Shape) (b : Board) (m : List ℕ) (line : ℕ) → Unfit s b m → look s b line ≡ plainLook s (plainOf b m) line
 unfolding look plainLook byTable
-look-unfit s b m line x = rw (x .memory-is, x .no)
+look-unfit s b m line x = rw (x .same-length, x .no)
 
 pub look-number-unfit : (s : Shape) (b : Board) (m : List ℕ) (line : ℕ) → Unfit s b m → lookNumber s b line ≡ plainLookNumber s (plainOf b m) line
 unfolding lookNumber plainLookNumber
-look-number-unfit s b m line x = rw (x .memory-is)
+look-number-unfit s b m line x = rw (x .same-length)
 
 -- from any fresh board
 pub demand2 : Demand2
@@ -123,4 +128,4 @@ demand2 s b x ks = go (fitsBoard s b) refl
   where
     go : (t : Bool) → fitsBoard s b ≡ t → Alike s b (b .store .memory) ks
     go true t = alike (Stands s) s (stepped s) (look-plain s) (look-number-plain s) b (b .store .memory) ks (stands-fresh s b x t)
-    go false t = alike (Unfit s) s (unfit-stepped s) (look-unfit s) (look-number-unfit s) b (b .store .memory) ks (record { no = t; memory-is = refl })
+    go false t = alike (Unfit s) s (unfit-stepped s) (look-unfit s) (look-number-unfit s) b (b .store .memory) ks (record { no = t; same-length = refl })

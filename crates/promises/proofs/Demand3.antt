@@ -53,7 +53,7 @@ module _ (R : Board → List ℕ → Type 0) (s : Shape) (stepped : (b : Board) 
 unfit-after : (s : Shape) (b : Board) → fitsBoard s b ≡ false → (ks : List Call) → after s b ks ≡ b
 unfolding after
 unfit-after s b h [] = refl
-unfit-after s b h (k ∷ ks) = let z = unfit-call s b h k .0 in rw z (unfit-after s b h ks)
+unfit-after s b h (k ∷ ks) = let z = unfit-call s b (b .store .memory) (record { no = h; same-length = refl }) k .0 in rw z (unfit-after s b h ks)
 
 pub one-copy : OneCopy
 one-copy s b x ks = go (fitsBoard s b) refl
@@ -81,4 +81,4 @@ demand3 = record {
         → (t : Bool) → fitsBoard s b ≡ t → SameForProcess s b ks ls process
     go s b x ks ls process f h true t = same-process (Stands s) s (stepped s) (look-plain s) (look-number-plain s) b (stands-fresh s b x t) ks ls process f h
     go s b x ks ls process f h false t =
-        same-process (Unfit s) s (unfit-stepped s) (look-unfit s) (look-number-unfit s) b (record { no = t; memory-is = refl }) ks ls process f h
+        same-process (Unfit s) s (unfit-stepped s) (look-unfit s) (look-number-unfit s) b (record { no = t; same-length = refl }) ks ls process f h

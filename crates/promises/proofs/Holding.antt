@@ -82,28 +82,32 @@ module _ (test : List ℕ → Bool) (s : Shape) where
       rw (e, fits-same s s b k, slots-step s b k)
 
   -- the first moment counts once
-  ever-again : (fits : Bool) (slots : List ℕ) (ks : List Call) → (test slots || slotsEver fits slots ks) ≡ slotsEver fits slots ks
+  slots-again : (fits : Bool) (slots : List ℕ) (ks : List Call) → (test slots || slotsEver fits slots ks) ≡ slotsEver fits slots ks
   unfolding slotsEver
-  ever-again fits slots [] = or-self (test slots)
-  ever-again fits slots (k ∷ ks) = or-twice (test slots) (slotsEver fits (slotsBy s fits slots k) ks)
+  slots-again fits slots [] = or-self (test slots)
+  slots-again fits slots (k ∷ ks) = or-twice (test slots) (slotsEver fits (slotsBy s fits slots k) ks)
 
   -- the accesses of others make no moment
-  ever-without : (process : ℕ) (fits : Bool) (slots : List ℕ) (ks : List Call) → slotsEver fits slots ks ≡ slotsEver fits slots (withoutOthers process ks)
+  slots-without : (process : ℕ) (fits : Bool) (slots : List ℕ) (ks : List Call) → slotsEver fits slots ks ≡ slotsEver fits slots (withoutOthers process ks)
   unfolding slotsEver withoutOthers slotsBy
-  ever-without process fits slots [] = refl
-  ever-without process fits slots (supervisor c ∷ ks) = ap (λ (t : Bool). test slots || t) (ever-without process fits (slotsBy s fits slots (supervisor c)) ks)
-  ever-without process fits slots (user q a e ∷ ks) = go (eqb q process) (ever-without process fits slots ks)
+  slots-without process fits slots [] = refl
+  slots-without process fits slots (supervisor c ∷ ks) = ap (λ (t : Bool). test slots || t) (slots-without process fits (slotsBy s fits slots (supervisor c)) ks)
+  slots-without process fits slots (user q a e ∷ ks) = go (eqb q process) (slots-without process fits slots ks)
     where
       go : (t : Bool) → slotsEver fits slots ks ≡ slotsEver fits slots (withoutOthers process ks)
           → (test slots || slotsEver fits slots ks) ≡ slotsEver fits slots (cond t (user q a e ∷ withoutOthers process ks) (withoutOthers process ks))
       go true later = rw later
-      go false later = rw later (ever-again fits slots (withoutOthers process ks))
+      go false later = rw later (slots-again fits slots (withoutOthers process ks))
+
+  -- of a board: the first moment counts once
+  pub ever-again : (b : Board) (ks : List Call) → (test (b .slots) || atSomeMoment test s b ks) ≡ atSomeMoment test s b ks
+  ever-again b ks = rw (ever-slots b ks) (slots-again (fitsBoard s b) (b .slots) ks)
 
   -- two runs with the same calls of our process and of the supervisor
   pub ever-same : (process : ℕ) (b : Board) (ks ls : List Call) → SameFor process ks ls → atSomeMoment test s b ks ≡ atSomeMoment test s b ls
   ever-same process b ks ls same =
-      ever-slots b ks ∙ ever-without process (fitsBoard s b) (b .slots) ks ∙ ap (slotsEver (fitsBoard s b) (b .slots)) same
-      ∙ sym (ever-slots b ls ∙ ever-without process (fitsBoard s b) (b .slots) ls)
+      ever-slots b ks ∙ slots-without process (fitsBoard s b) (b .slots) ks ∙ ap (slotsEver (fitsBoard s b) (b .slots)) same
+      ∙ sym (ever-slots b ls ∙ slots-without process (fitsBoard s b) (b .slots) ls)
 
 pub apart-either : ApartEither
 apart-either s b ks ls process same apart segment other low differs h w =

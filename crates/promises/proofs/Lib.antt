@@ -18,3 +18,4 @@ pub mod Places
 pub mod Demand1
 pub mod Demand2
 pub mod Demand3
+pub mod Brought

@@ -1,0 +1,300 @@
+-- Runs in which each call brings its own numbers. A call whose numbers don't fit is refused by 1 on both machines and changes nothing, so such a run
+-- is the run of the calls that fit, and these bring the board's own numbers. Stands on Demand2, Demand3, Holding and Lengths.
+use Prim.{tt}
+use Prim.Native.Nat.{ℕ}
+use mathlib.Core.Path.{_≡_, refl, sym, ap, _∙_}
+use mathlib.Core.Bool.{Bool, true, false, _||_, cond}
+use mathlib.Core.List.{List, [], _∷_}
+use native.Mathlib.Omega.{arith}
+use lib.Dec.{eqb}
+use lib.ListN.{length, getD, drop}
+use Rattle.board.specs.declared.Shape.{Shape}
+use Rattle.board.proofs.Bools.{clash}
+use Rattle.machine.specs.Boards.{Board, fitsBoard, Fresh, refused}
+use Rattle.machine.specs.Looks.{lookNumber, look}
+use Rattle.promises.specs.Plain.{Given, plainLookNumber, plainLook}
+use Rattle.promises.specs.Runs.{Call, user, supervisor, Reply, reply, step, after, replies, plainOf}
+use Rattle.promises.specs.Demand3.{atSomeMoment, Apart, withoutOthers, SameFor, repliesTo}
+use Rattle.promises.specs.Brought.{Pinned, Brought, bring, broughtAfter, broughtReplies, plainBroughtAfter, plainBroughtReplies, Brings, own, unfit, EachBrings, bringing, OneShape, BroughtAlike, BroughtDemand2, BroughtDemand2Sound, broughtAtSomeMoment, BroughtApart, broughtWithoutOthers, broughtRepliesTo, plainBroughtRepliesTo, BroughtSameForProcess, TwoRuns, BroughtDemand3}
+use Rattle.promises.proofs.Shapes.{board-shaped}
+use Rattle.promises.proofs.Related.{lengths-same}
+use Rattle.promises.proofs.Lengths.{fits-same}
+use Rattle.promises.proofs.Soundness.{Stands, sound-of, stands-of, stands-fresh}
+use Rattle.promises.proofs.Holding.{ever-again, ever-same}
+use Rattle.promises.proofs.Follows.{Stepped}
+use Rattle.promises.proofs.Demand2.{stepped, look-plain, look-number-plain, Unfit, unfit-call, unfit-keeps, unfit-stepped, look-unfit, look-number-unfit}
+use Rattle.promises.proofs.Demand3.{demand3}
+
+-- ---- F, P and L are pinned by the lengths
+
+pub pinned : Pinned
+pinned s t b f g =
+    let x = board-shaped s b f in
+    let y = board-shaped t b g in
+    record {
+      same-frames = sym (x .words-are) ∙ y .words-are;
+      same-processes = omega (arith, x .slots-are, y .slots-are);
+      same-lines = omega (arith, x .records-are, y .records-are);
+    }
+
+-- ---- calls that all bring the same numbers
+
+pub one-shape : OneShape
+unfolding bringing EachBrings broughtAfter after broughtReplies replies
+one-shape s b [] = record { premise-met = tt; same-after = refl; same-replies = refl }
+one-shape s b (k ∷ ks) =
+    let r = one-shape s (step s b k .after) ks in
+    record { premise-met = (own refl, r .premise-met); same-after = r .same-after; same-replies = ap (λ (l : List Reply). reply (step s b k .answer) ∷ l) (r .same-replies) }
+
+-- ---- demand 2: the two machines, call by call
+
+record BroughtRan (R : Board → List ℕ → Type 0) (b : Board) (m : List ℕ) (ks : List Brought) : Type 0 where
+  memory : List ℕ
+  replies-same : broughtReplies b ks ≡ plainBroughtReplies (plainOf b m) ks
+  plain-is : plainBroughtAfter (plainOf b m) ks ≡ plainOf (broughtAfter b ks) memory
+  related : R (broughtAfter b ks) memory
+
+-- from any board that a plain machine follows
+module _ (R : Board → List ℕ → Type 0) (s : Shape) (stepped : (b : Board) (m : List ℕ) (k : Call) → R b m → Stepped R s b m k)
+    (lengths : (b : Board) (m : List ℕ) → R b m → length m ≡ length (b .store .memory)) where
+  brought-stepped : (t : Shape) (b : Board) (m : List ℕ) (k : Call) → R b m → Brings s b t → Stepped R t b m k
+  brought-stepped t b m k x (own e) = rw e (stepped b m k x)
+  brought-stepped t b m k x (unfit f) = unfit-keeps t b m (record { no = f; same-length = lengths b m x }) R k x
+
+  brought-ran : (b : Board) (m : List ℕ) (ks : List Brought) → R b m → EachBrings s b ks → BroughtRan R b m ks
+  unfolding broughtReplies plainBroughtReplies broughtAfter plainBroughtAfter EachBrings
+  brought-ran b m [] x h = record { memory = m; replies-same = refl; plain-is = refl; related = x }
+  brought-ran b m (bring t k ∷ ks) x h =
+      let r = brought-stepped t b m k x (h .0) in
+      let e = r .given-is in
+      let i = brought-ran (step t b k .after) (r .memory) ks (r .related) (h .1) in
+      record { memory = i .memory; related = i .related; replies-same = rw (e, i .replies-same); plain-is = rw e (i .plain-is) }
+
+  -- the replies to one process
+  brought-replies-to : (process : ℕ) (b : Board) (m : List ℕ) (ks : List Brought) → R b m → EachBrings s b ks
+      → broughtRepliesTo process b ks ≡ plainBroughtRepliesTo process (plainOf b m) ks
+  unfolding broughtRepliesTo plainBroughtRepliesTo EachBrings
+  brought-replies-to process b m [] x h = refl
+  brought-replies-to process b m (bring t (user q a e) ∷ ks) x h =
+      let r = brought-stepped t b m (user q a e) x (h .0) in
+      let z = r .given-is in
+      let i = brought-replies-to process (step t b (user q a e) .after) (r .memory) ks (r .related) (h .1) in
+      rw (z, i)
+  brought-replies-to process b m (bring t (supervisor c) ∷ ks) x h =
+      let r = brought-stepped t b m (supervisor c) x (h .0) in
+      let z = r .given-is in
+      rw z (brought-replies-to process (step t b (supervisor c) .after) (r .memory) ks (r .related) (h .1))
+
+  module _ (shown : (b : Board) (m : List ℕ) (line : ℕ) → R b m → look s b line ≡ plainLook s (plainOf b m) line)
+      (asked : (b : Board) (m : List ℕ) (line : ℕ) → R b m → lookNumber s b line ≡ plainLookNumber s (plainOf b m) line) where
+    brought-shown : (t : Shape) (b : Board) (m : List ℕ) (line : ℕ) → R b m → Brings s b t → look t b line ≡ plainLook t (plainOf b m) line
+    brought-shown t b m line x (own e) = rw e (shown b m line x)
+    brought-shown t b m line x (unfit f) = look-unfit t b m line (record { no = f; same-length = lengths b m x })
+
+    brought-asked : (t : Shape) (b : Board) (m : List ℕ) (line : ℕ) → R b m → Brings s b t → lookNumber t b line ≡ plainLookNumber t (plainOf b m) line
+    brought-asked t b m line x (own e) = rw e (asked b m line x)
+    brought-asked t b m line x (unfit f) = look-number-unfit t b m line (record { no = f; same-length = lengths b m x })
+
+    brought-alike : (b : Board) (m : List ℕ) (ks : List Brought) → R b m → EachBrings s b ks → BroughtAlike s b m ks
+    brought-alike b m ks x h =
+        let r = brought-ran b m ks x h in
+        record {
+          same-replies = r .replies-same;
+          same-bytes = λ t i line. rw (r .plain-is) (brought-shown t (broughtAfter b ks) (r .memory) line (r .related) i);
+          same-look-number = λ t i line. rw (r .plain-is) (brought-asked t (broughtAfter b ks) (r .memory) line (r .related) i);
+          done-at-once = λ t i k n.
+              let y = brought-stepped t (broughtAfter b ks) (r .memory) k (r .related) i in
+              sym (ap (λ (g : Given). g .number) (y .given-is)) ∙ (rw (r .plain-is) at n);
+        }
+
+stands-lengths : (s : Shape) (b : Board) (m : List ℕ) → Stands s b m → length m ≡ length (b .store .memory)
+stands-lengths s b m x = lengths-same s b m (x .sim)
+
+unfit-lengths : (s : Shape) (b : Board) (m : List ℕ) → Unfit s b m → length m ≡ length (b .store .memory)
+unfit-lengths s b m x = x .same-length
+
+pub brought-demand2 : BroughtDemand2
+brought-demand2 s b x ks h = go (fitsBoard s b) refl
+  where
+    go : (t : Bool) → fitsBoard s b ≡ t → BroughtAlike s b (b .store .memory) ks
+    go true t = brought-alike (Stands s) s (stepped s) (stands-lengths s) (look-plain s) (look-number-plain s) b (b .store .memory) ks (stands-fresh s b x t) h
+    go false t =
+        brought-alike (Unfit s) s (unfit-stepped s) (unfit-lengths s) (look-unfit s) (look-number-unfit s) b (b .store .memory) ks (record { no = t; same-length = refl }) h
+
+pub brought-demand2-sound : BroughtDemand2Sound
+brought-demand2-sound s b m x y ks h =
+    let z = stands-of s b m x y in
+    let r = brought-ran (Stands s) s (stepped s) (stands-lengths s) b m ks z h in
+    record {
+      alike = brought-alike (Stands s) s (stepped s) (stands-lengths s) (look-plain s) (look-number-plain s) b m ks z h;
+      sound = sound-of s (broughtAfter b ks) (r .memory) (r .related);
+    }
+
+-- ---- the calls that fit
+
+-- `fit` says of numbers whether they fit the buffers, whose lengths no call changes
+module _ (fit : Shape → Bool) where
+  unfoldable fitting : List Brought → List Call
+  fitting [] = []
+  fitting (bring t k ∷ ks) = cond (fit t) (k ∷ fitting ks) (fitting ks)
+
+  abbrev refusal : Reply
+  refusal = record { number = 1; value = 0 }
+
+  -- the replies to our process, from its calls (and the supervisor's) and the replies to those that fit
+  unfoldable woven : List Brought → List Reply → List Reply
+  woven [] rs = []
+  woven (bring t (user q a e) ∷ ks) rs = cond (fit t) (getD rs 0 refusal ∷ woven ks (drop 1 rs)) (refusal ∷ woven ks rs)
+  woven (bring t (supervisor c) ∷ ks) rs = woven ks rs
+
+  fitting-without : (process : ℕ) (ks : List Brought) → withoutOthers process (fitting ks) ≡ fitting (broughtWithoutOthers process ks)
+  unfolding withoutOthers fitting broughtWithoutOthers
+  fitting-without process [] = refl
+  fitting-without process (bring t (supervisor c) ∷ ks) = go (fit t) (fitting-without process ks)
+    where
+      go : (f : Bool) → withoutOthers process (fitting ks) ≡ fitting (broughtWithoutOthers process ks)
+          → withoutOthers process (cond f (supervisor c ∷ fitting ks) (fitting ks))
+          ≡ cond f (supervisor c ∷ fitting (broughtWithoutOthers process ks)) (fitting (broughtWithoutOthers process ks))
+      go true later = rw later
+      go false later = later
+  fitting-without process (bring t (user q a e) ∷ ks) = go (fit t) (eqb q process) refl refl (fitting-without process ks)
+    where
+      go : (f u : Bool) → fit t ≡ f → eqb q process ≡ u → withoutOthers process (fitting ks) ≡ fitting (broughtWithoutOthers process ks)
+          → withoutOthers process (cond f (user q a e ∷ fitting ks) (fitting ks))
+          ≡ fitting (cond u (bring t (user q a e) ∷ broughtWithoutOthers process ks) (broughtWithoutOthers process ks))
+      go true true f u later = rw (f, u, later)
+      go true false f u later = rw (u, later)
+      go false true f u later = rw (f, later)
+      go false false f u later = later
+
+  module _ (s : Shape) where
+    -- one call: it brings the board's own numbers, or it changes nothing
+    data OneCall (t : Shape) (b : Board) (k : Call) : Type 0 where
+      fits : fit t ≡ true → t ≡ s → OneCall t b k
+      refuses : fit t ≡ false → step t b k ≡ refused b 1 → OneCall t b k
+
+    abbrev FitsAre : Board → Type 0
+    FitsAre b = (t : Shape) → fitsBoard t b ≡ fit t
+
+    fits-later : (t : Shape) (b : Board) (k : Call) → FitsAre b → FitsAre (step t b k .after)
+    fits-later t b k h u = fits-same u t b k ∙ h u
+
+    one-call : (t : Shape) (b : Board) (k : Call) → FitsAre b → Brings s b t → OneCall t b k
+    one-call t b k h i = go (fit t) refl i
+      where
+        go : (f : Bool) → fit t ≡ f → Brings s b t → OneCall t b k
+        go true f (own e) = fits f e
+        go true f (unfit n) = clash (fit t) f (sym (h t) ∙ n)
+        go false f i = refuses f (unfit-call t b (b .store .memory) (record { no = h t ∙ f; same-length = refl }) k .0)
+
+    after-fitting : (b : Board) (ks : List Brought) → FitsAre b → EachBrings s b ks → broughtAfter b ks ≡ after s b (fitting ks)
+    unfolding broughtAfter after fitting EachBrings
+    after-fitting b [] h i = refl
+    after-fitting b (bring t k ∷ ks) h i = go (one-call t b k h (i .0)) (after-fitting (step t b k .after) ks (fits-later t b k h) (i .1))
+      where
+        go : OneCall t b k → broughtAfter (step t b k .after) ks ≡ after s (step t b k .after) (fitting ks)
+            → broughtAfter (step t b k .after) ks ≡ after s b (cond (fit t) (k ∷ fitting ks) (fitting ks))
+        go (fits f e) later = later ∙ rw (f, e)
+        go (refuses f e) later = later ∙ rw (f, e)
+
+    ever-fitting : (test : List ℕ → Bool) (b : Board) (ks : List Brought) → FitsAre b → EachBrings s b ks
+        → broughtAtSomeMoment test b ks ≡ atSomeMoment test s b (fitting ks)
+    unfolding broughtAtSomeMoment atSomeMoment fitting EachBrings
+    ever-fitting test b [] h i = refl
+    ever-fitting test b (bring t k ∷ ks) h i = go (one-call t b k h (i .0)) (ever-fitting test (step t b k .after) ks (fits-later t b k h) (i .1))
+      where
+        go : OneCall t b k → broughtAtSomeMoment test (step t b k .after) ks ≡ atSomeMoment test s (step t b k .after) (fitting ks)
+            → (test (b .slots) || broughtAtSomeMoment test (step t b k .after) ks) ≡ atSomeMoment test s b (cond (fit t) (k ∷ fitting ks) (fitting ks))
+        go (fits f e) later = rw (later, f, e)
+        go (refuses f e) later = rw (later, f, e) (ever-again test s b (fitting ks))
+
+    replies-fitting : (process : ℕ) (b : Board) (ks : List Brought) → FitsAre b → EachBrings s b ks
+        → broughtRepliesTo process b ks ≡ woven (broughtWithoutOthers process ks) (repliesTo process s b (fitting ks))
+    unfolding broughtRepliesTo repliesTo fitting woven broughtWithoutOthers EachBrings
+    replies-fitting process b [] h i = refl
+    replies-fitting process b (bring t (supervisor c) ∷ ks) h i =
+        go (one-call t b (supervisor c) h (i .0)) (replies-fitting process (step t b (supervisor c) .after) ks (fits-later t b (supervisor c) h) (i .1))
+      where
+        go : OneCall t b (supervisor c)
+            → broughtRepliesTo process (step t b (supervisor c) .after) ks ≡ woven (broughtWithoutOthers process ks) (repliesTo process s (step t b (supervisor c) .after) (fitting ks))
+            → broughtRepliesTo process (step t b (supervisor c) .after) ks
+            ≡ woven (broughtWithoutOthers process ks) (repliesTo process s b (cond (fit t) (supervisor c ∷ fitting ks) (fitting ks)))
+        go (fits f e) later = later ∙ rw (f, e)
+        go (refuses f e) later = later ∙ rw (f, e)
+    replies-fitting process b (bring t (user q a d) ∷ ks) h i =
+        go (eqb q process) refl (one-call t b (user q a d) h (i .0)) (replies-fitting process (step t b (user q a d) .after) ks (fits-later t b (user q a d) h) (i .1))
+      where
+        go : (u : Bool) → eqb q process ≡ u → OneCall t b (user q a d)
+            → broughtRepliesTo process (step t b (user q a d) .after) ks ≡ woven (broughtWithoutOthers process ks) (repliesTo process s (step t b (user q a d) .after) (fitting ks))
+            → cond u (reply (step t b (user q a d) .answer) ∷ broughtRepliesTo process (step t b (user q a d) .after) ks) (broughtRepliesTo process (step t b (user q a d) .after) ks)
+            ≡ woven (cond u (bring t (user q a d) ∷ broughtWithoutOthers process ks) (broughtWithoutOthers process ks)) (repliesTo process s b (cond (fit t) (user q a d ∷ fitting ks) (fitting ks)))
+        go true u (fits f e) later = rw (later, f, u, e)
+        go true u (refuses f e) later = rw (later, f, e)
+        go false u (fits f e) later = rw (later, f, u, e)
+        go false u (refuses f e) later = rw (later, f, e)
+
+-- ---- demand 3
+
+module _ (s : Shape) (b : Board) where
+  abbrev fit : Shape → Bool
+  fit t = fitsBoard t b
+
+  abbrev calls : List Brought → List Call
+  calls ks = fitting fit ks
+
+  brought-after : (ks : List Brought) → EachBrings s b ks → broughtAfter b ks ≡ after s b (calls ks)
+  brought-after ks i = after-fitting fit s b ks (λ t. refl) i
+
+  brought-ever : (test : List ℕ → Bool) (ks : List Brought) → EachBrings s b ks → broughtAtSomeMoment test b ks ≡ atSomeMoment test s b (calls ks)
+  brought-ever test ks i = ever-fitting fit s test b ks (λ t. refl) i
+
+  module _ (ks ls : List Brought) (process : ℕ) (two : TwoRuns s b ks ls process) where
+    calls-same : SameFor process (calls ks) (calls ls)
+    calls-same = fitting-without fit process ks ∙ ap (fitting fit) (two .same-calls) ∙ sym (fitting-without fit process ls)
+
+    brought-either : BroughtApart s b ks process → BroughtApart s b ls process
+    brought-either apart segment other low differs h w =
+        apart segment other low differs (same _ ∙ h) (same _ ∙ w)
+      where
+        same : (test : List ℕ → Bool) → broughtAtSomeMoment test b ks ≡ broughtAtSomeMoment test b ls
+        same test = brought-ever test ks (two .first-brings) ∙ ever-same test s process b (calls ks) (calls ls) calls-same ∙ sym (brought-ever test ls (two .second-brings))
+
+    calls-apart : BroughtApart s b ks process → Apart s b (calls ks) process
+    calls-apart apart segment other low differs h w =
+        apart segment other low differs (brought-ever _ ks (two .first-brings) ∙ h) (brought-ever _ ks (two .first-brings) ∙ w)
+
+    brought-replies : repliesTo process s b (calls ks) ≡ repliesTo process s b (calls ls) → broughtRepliesTo process b ks ≡ broughtRepliesTo process b ls
+    brought-replies e =
+        replies-fitting fit s process b ks (λ t. refl) (two .first-brings) ∙ rw (two .same-calls, e)
+        (sym (replies-fitting fit s process b ls (λ t. refl) (two .second-brings)))
+
+-- the replies to a process are the plain machine's
+brought-plain : (s : Shape) (b : Board) → Fresh b → (ks : List Brought) (process : ℕ) → EachBrings s b ks
+    → broughtRepliesTo process b ks ≡ plainBroughtRepliesTo process (plainOf b (b .store .memory)) ks
+brought-plain s b x ks process h = go (fitsBoard s b) refl
+  where
+    go : (t : Bool) → fitsBoard s b ≡ t → broughtRepliesTo process b ks ≡ plainBroughtRepliesTo process (plainOf b (b .store .memory)) ks
+    go true t = brought-replies-to (Stands s) s (stepped s) (stands-lengths s) process b (b .store .memory) ks (stands-fresh s b x t) h
+    go false t = brought-replies-to (Unfit s) s (unfit-stepped s) (unfit-lengths s) process b (b .store .memory) ks (record { no = t; same-length = refl }) h
+
+brought-same : (s : Shape) (b : Board) → Fresh b → (ks ls : List Brought) (process : ℕ) → TwoRuns s b ks ls process → BroughtApart s b ks process
+    → BroughtSameForProcess s b ks ls process
+brought-same s b x ks ls process two apart =
+    let r = demand3 .apart s b x (calls s b ks) (calls s b ls) process (calls-same s b ks ls process two) (calls-apart s b ks ls process two apart) in
+    let k = brought-after s b ks (two .first-brings) in
+    let l = brought-after s b ls (two .second-brings) in
+    record {
+      same-replies = brought-replies s b ks ls process two (r .same-replies);
+      plain-replies = brought-plain s b x ks process (two .first-brings);
+      plain-replies-second = brought-plain s b x ls process (two .second-brings);
+      same-map = rw (k, l) (r .same-map);
+      same-bytes = λ page frame line e g d. rw (k, l) (r .same-bytes page frame line (sym (brought-ever s b _ ks (two .first-brings)) ∙ e) (rw k at g) d);
+    }
+
+pub brought-demand3 : BroughtDemand3
+brought-demand3 = record {
+  apart = brought-same;
+  apart-either = brought-either;
+  one-copy = λ s b x ks h. let k = brought-after s b ks h in rw k (demand3 .one-copy s b x (calls s b ks));
+  one-copy-valid = λ s b x ks h. let k = brought-after s b ks h in rw k (demand3 .one-copy-valid s b x (calls s b ks));
+}
