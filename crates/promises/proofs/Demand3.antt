@@ -12,7 +12,7 @@ use Rattle.promises.specs.Runs.{Call, after, plainAfter, plainOf}
 use Rattle.promises.specs.Sound.{LinesOnce}
 use Rattle.promises.specs.Demand3.{holds, holdsForWriting, Apart, SameFor, SameForProcess, OneCopy, EveryValidHolds, OneCopyValid, Demand3}
 use Rattle.promises.proofs.Soundness.{Stands, fresh-empty, stands-fresh}
-use Rattle.promises.proofs.Apart.{PlainApart, plain-apart}
+use Rattle.promises.proofs.Apart.{plainEver, PlainApart, plain-apart}
 use Rattle.promises.proofs.Holding.{ever-same, apart-either}
 use Rattle.promises.proofs.Valid.{valid-holds-stays}
 use Rattle.promises.proofs.Follows.{Stepped, ran, replies-to, ever-plain, look-after}
@@ -31,9 +31,14 @@ module _ (R : Board → List ℕ → Type 0) (s : Shape) (stepped : (b : Board) 
       (ever-plain R s stepped (λ slots. holds slots process segment) b m ks x ∙ a)
       (ever-plain R s stepped (λ slots. holdsForWriting slots other segment) b m ks x ∙ w)
 
+  plain-ever-same : (ks ls : List Call) (process : ℕ) → SameFor process ks ls → (test : List ℕ → Bool)
+      → plainEver test s (plainOf b m) ks ≡ plainEver test s (plainOf b m) ls
+  plain-ever-same ks ls process f test =
+      sym (ever-plain R s stepped test b m ks x) ∙ ever-same test s process b ks ls f ∙ ever-plain R s stepped test b m ls x
+
   same-process : (ks ls : List Call) (process : ℕ) → SameFor process ks ls → Apart s b ks process → SameForProcess s b ks ls process
   same-process ks ls process f h =
-      let q = plain-apart s (plainOf b m) ks ls process f (λ test. sym (ever-plain R s stepped test b m ks x) ∙ ever-same test s process b ks ls f ∙ ever-plain R s stepped test b m ls x) (plain-premise ks process h) in
+      let q = plain-apart s (plainOf b m) ks ls process f (plain-ever-same ks ls process f) (plain-premise ks process h) in
       let k = ran R s stepped b m ks x in
       let l = ran R s stepped b m ls x in
       let words-k : plainAfter s (plainOf b m) ks .words ≡ after s b ks .words = ap (λ (p : Plain). p .words) (k .plain-is) in

@@ -1,6 +1,6 @@
 -- Demands 2 and 3 of runs in which each call brings its own numbers F, U, P and L, as a caller's calls do.
--- The lengths of the buffers pin F, P and L, but not U, which belongs to the board: the frames that no mapping reaches. So each call has to bring
--- the board's own numbers, or numbers that don't fit the buffers; such a call is refused by number 1, on both machines.
+-- The lengths of the buffers pin F, P and L, but not U, which belongs to the board. So each call has to bring the board's own numbers, or numbers
+-- that don't fit the buffers; such a call is refused by number 1, on both machines.
 use Prim.{Unit}
 use Prim.Native.Nat.{ℕ, _/_}
 use mathlib.Core.Path.{_≡_}
@@ -78,13 +78,15 @@ OneShape = (s : Shape) (b : Board) (ks : List Call) → RunOfOneShape s b ks
 
 -- ---- demand 2
 
--- the board, run from b, is the plain machine, run from the same slots, words and tag and this memory; look is asked like any call
+-- the board, run from b, is the plain machine, run from the same slots, words and tag and this memory
 pub record BroughtAlike (s : Shape) (b : Board) (memory : List ℕ) (ks : List Brought) : Type 0 where
   pub same-replies : broughtReplies b ks ≡ plainBroughtReplies (plainOf b memory) ks
+  -- at every moment look shows the plain machine's memory, if it brings numbers as the calls do (`ks` is any list, so any first part of a run too)
   pub same-bytes : (t : Shape) → Brings s (broughtAfter b ks) t → (line : ℕ)
       → look t (broughtAfter b ks) line ≡ plainLook t (plainBroughtAfter (plainOf b memory) ks) line
   pub same-look-number : (t : Shape) → Brings s (broughtAfter b ks) t → (line : ℕ)
       → lookNumber t (broughtAfter b ks) line ≡ plainLookNumber t (plainBroughtAfter (plainOf b memory) ks) line
+  -- a call that the plain machine does is done in that same call
   pub done-at-once : (t : Shape) → Brings s (broughtAfter b ks) t → (k : Call)
       → plainStep t (plainBroughtAfter (plainOf b memory) ks) k .number ≡ 0 → step t (broughtAfter b ks) k .answer .number ≡ 0
 

@@ -48,8 +48,8 @@ everHolds s b ks process segment = atSomeMoment (λ slots. holds slots process s
 abbrev pub everWrites : Shape → Board → List Call → ℕ → ℕ → Bool
 everWrites s b ks process segment = atSomeMoment (λ slots. holdsForWriting slots process segment) s b ks
 
--- no segment that the process holds at any moment is held for writing by another process at any moment,
--- of any run, whose question "do the slots pass this test at some moment?" is `ever`
+-- no segment that the process holds at any moment of a run is held for writing by another process at any moment of it;
+-- `ever` says of a test whether the slots pass it at some moment of that run
 abbrev pub ApartIn : ((List ℕ → Bool) → Bool) → Shape → ℕ → Type 0
 ApartIn ever s process =
     (segment other : ℕ) → other < s .processes → (other ≡ process → ⊥)

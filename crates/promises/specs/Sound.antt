@@ -56,7 +56,7 @@ abbrev pub FreshSound : Type 0
 FreshSound = (s : Shape) (b : Board) → Fresh b → ShapeHolds s b → Sound s b
 
 -- every valid record holds a line. No rule of a sound board (a board from elsewhere may have valid records that hold nothing),
--- but so on a fresh one and after every call
+-- but it is so on a fresh one, and stays so
 abbrev pub ValidHolds : Shape → Store → Type 0
 ValidHolds s x = (i : ℕ) → lineAt (x .records) i .valid ≡ true → holdsAt ways s (x .records) i ≡ true
 
