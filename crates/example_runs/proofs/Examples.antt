@@ -1,56 +1,82 @@
 -- The small runs beside the demands, call by call.
-use Prim.Native.Nat.{ℕ, zero, suc}
+use Prim.Native.Nat.{ℕ, _+_, _/_, _<_}
+use mathlib.Core.Logic.{_≢_}
 use mathlib.Core.Path.{_≡_, refl, sym, ap, _∙_}
-use mathlib.Core.Bool.{Bool, true, false, _&&_, _||_, cond}
-use mathlib.Core.List.{List, [], _∷_, map as each, append-nil}
+use mathlib.Core.Bool.{Bool, true, false}
+use mathlib.Core.List.{List, [], _∷_, _++_}
 use native.Mathlib.Omega.{arith}
-use lib.ListN.{length, getD, set, replicate, drop-of-length-le}
-use lib.Seq.{sets-eq}
+use native.Mathlib.Nat.{zero-add}
+use lib.ListN.{length, getD, set, replicate, length-replicate}
 use lib.Count.{ones, onesIn}
 use lib.Dec.{eqb}
+use borrow.Author.Tests.{eqb-true}
 use Rattle.board.specs.Answers.{answer}
 use Rattle.board.specs.Lists.{part, splice}
 use Rattle.board.specs.Shapes.{fitsShape}
-use Rattle.slots.specs.Slots.{slotIndex, slotWord}
+use Rattle.slots.specs.Slots.{slotWord}
 use Rattle.pages.specs.Pages.{frameWord, lowestFrom, lowestFrame, mappedTo, homeBy, homeOf}
 use Rattle.board.specs.declared.Answer.{Answer}
 use Rattle.line_bytes.specs.Bytes.{number, digits, stored, lineOf, withLine, zeros, zeroedFrame}
-use Rattle.lines.specs.Records.{lineAt, putLine}
-use Rattle.lines.specs.Holds.{holdsLine, holdsAt, holderFrom, holderOf}
-use Rattle.stores.specs.Stores.{writtenBack, filled, noted, inserted, performedAt}
+use Rattle.lines.specs.Records.{wordOf, lineAt, putLine, newLine, changedLine}
+use Rattle.lines.specs.declared.Line.{Line}
+use Rattle.lines.specs.Holds.{holdsLine, holdsAt, holderFrom, holderOf, keepsLine, keeperFrom, keeperOf}
+use Rattle.stores.specs.Stores.{writtenBack, filled, noted, inserted, performedAt, currentBy, current}
 use Rattle.reach.specs.Reach.{wayByHome, wayBy, wayOf, unreached, mayWrite}
 use Rattle.visits.specs.Visits.{visited, sweep, visitedAll}
-use Rattle.line_bytes.proofs.Bytes.{length-zeros}
-use Rattle.machine.specs.Boards.{Board, board, noTag, outcome}
+use Rattle.line_bytes.proofs.Bytes.{length-line}
+use Rattle.machine.specs.Boards.{Board, board, noTag, Fresh}
 use Rattle.machine.specs.Refusals.{byTable, alignedTo, isMapped}
 use Rattle.machine.specs.Accesses.{performedOn, accessedBy, accessed, userTable, userAccess}
 use Rattle.machine.specs.Calls as calls
 use Rattle.machine.specs.Calls.{mapPage, mapped}
-use Rattle.promises.specs.Runs.{attach, map, Call, user, supervisor, supervise, step, after, Reply, reply, replies}
-use Rattle.promises.specs.Demand3.{wordHolds, wordWritesTo, holds, holdsForWriting, someSlot, atSomeMoment, everWrites, withoutOthers, repliesTo}
-use Rattle.example_runs.specs.Examples.{shape, start, load, save, runA, runB, runC, runD, answers, gets, Example1, Example2, Example3, Broken3}
-use Rattle.board.proofs.Bools.{clash, or-left, or-right}
+use Rattle.machine.specs.Looks.{look}
+use Rattle.promises.specs.Runs.{attach, map, Call, supervisor, supervise, step, after, Reply}
+use Rattle.promises.specs.Demand1.{supervisorRows, rowsOf, appliesIn}
+use Rattle.promises.specs.Demand3.{wordHolds, wordWritesTo, holds, holdsForWriting, atSomeMoment, everHolds, everWrites, Apart, withoutOthers}
+use Rattle.example_runs.proofs.Chains.{Does, Ran, ended, _then_, kept, ran-answers, ran-after, ran-replies, ran-replies-to, Throughout, never, finally, some-slot, some-fresh, some-failing, some-outside}
+use Rattle.example_runs.specs.Examples.{shape, memory, start, load, save, opening, pushing, runA, runB, runC, runD, gets, lineWith, LowerGiven, Example1, Example2, Example3, Broken3}
+use Rattle.board.proofs.Bools.{clash}
+use Rattle.store_laws.proofs.Bytes.{line-ext, line-same, copied-at, line-with-other}
+use Rattle.store_laws.proofs.Zeroed.{zeros-at, length-zeroed, zeroed-line-in, zeroed-line-out}
 use Rattle.promises.proofs.Soundness.{fresh-zeros}
 use Rattle.promises.proofs.Demand2.{demand2}
+use Rattle.promises.proofs.Demand3.{demand3}
 
--- a call on the board
-record Does (b : Board) (k : Call) (a : Answer) (c : Board) : Type 0 where
-  does : step shape b k ≡ outcome a c
+-- ---- the memory of the runs
 
--- memory filled with zeros from end to end
-zeroed-whole : (l : List ℕ) → length l ≡ 4096 → zeroedFrame l 0 ≡ zeros 4096
-unfolding zeroedFrame splice
-zeroed-whole l h =
-    sets-eq (zeros 4096) l 0 (rw (length-zeros, h) (omega arith))
-    ∙ rw (length-zeros, drop-of-length-le l {i = 4096} (omega arith)) (append-nil (zeros 4096))
+length-memory : length memory ≡ 16384
+unfolding memory
+length-memory = length-replicate {A = ℕ} 16384 255
+
+module _ (m : List ℕ) (fits : length m ≡ 16384) (p : ℕ) (inside : p < 1024) where
+  -- a line of a frame that was filled with zeros, and of another frame
+  zeroed-here : (f : ℕ) → p / 256 ≡ f → lineOf (zeroedFrame m f) p ≡ lineWith 0
+  unfolding lineOf part
+  zeroed-here f h =
+      line-ext (zeroedFrame m f) (lineWith 0) p 0 (omega (arith, length-zeroed m f)) (omega arith)
+      (λ k g. zeroed-line-in m f p k h g (omega arith) ∙ sym (zeros-at 16 (0 + k)))
+
+  zeroed-elsewhere : (f : ℕ) → p / 256 ≢ f → lineOf (zeroedFrame m f) p ≡ lineOf m p
+  zeroed-elsewhere f h = line-same (zeroedFrame m f) m p (length-zeroed m f) (λ k g. zeroed-line-out m f p k h g)
+
+  -- a line that was written back, and another line
+  written-here : (value : ℕ) → lineOf (withLine m p (lineWith value)) p ≡ lineWith value
+  unfolding lineOf withLine part
+  written-here value =
+      line-ext (withLine m p (lineWith value)) (lineWith value) p 0 (omega (arith, length-line m p (lineWith value))) (omega arith)
+      (λ k g. copied-at m (lineWith value) p 0 (omega arith) (omega arith) k g)
+
+  written-elsewhere : (value q : ℕ) → p ≢ q → lineOf (withLine m q (lineWith value)) p ≡ lineOf m p
+  unfolding lineOf part
+  written-elsewhere value q h = line-with-other m (lineWith value) q 0 p h
 
 -- ---- the boards of the runs
 
--- slots, records, cache and memory
-abbrev mappedBoard : List ℕ → List ℕ → List ℕ → List ℕ → Board
-mappedBoard slots records cache memory = board slots (frameWord 0x200000 true ∷ []) records cache memory noTag
+-- slots, frame words, records, cache and memory, nothing pending
+abbrev untagged : List ℕ → List ℕ → List ℕ → List ℕ → List ℕ → Board
+untagged slots words records cache m = board slots words records cache m noTag
 
--- the slots: nothing attached; segment 2048 by process 0; by process 1 too
+-- the slots: nothing attached; segment 2048 by process 0; by process 1 too; and segment 2049 by process 1
 abbrev slots0 : List ℕ
 slots0 = replicate 1024 0
 
@@ -60,203 +86,333 @@ slots1 = set slots0 0 (slotWord 2048 true)
 abbrev slots2 : Bool → List ℕ
 slots2 write = set slots1 512 (slotWord 2048 write)
 
--- a line of zeros but for one byte, and more zeros
-abbrev bytesWith : ℕ → ℕ → List ℕ
-bytesWith value n = 0 ∷ 0 ∷ 0 ∷ value ∷ 0 ∷ 0 ∷ 0 ∷ 0 ∷ 0 ∷ 0 ∷ 0 ∷ 0 ∷ 0 ∷ 0 ∷ 0 ∷ 0 ∷ zeros n
+abbrev slots3 : Bool → List ℕ
+slots3 write = set (slots2 write) 513 (slotWord 2049 true)
+
+-- the frame words: one page mapped, and both
+abbrev words1 : List ℕ
+words1 = 0 ∷ frameWord 0x200000 true ∷ 0 ∷ 0 ∷ []
+
+abbrev words2 : List ℕ
+words2 = 0 ∷ frameWord 0x200000 true ∷ frameWord 0x200400 true ∷ 0 ∷ []
 
 -- no line held
-abbrev empty : List ℕ → Board
-empty slots = mappedBoard slots (0 ∷ 0 ∷ []) (zeros 16) (zeros 4096)
+abbrev empty : List ℕ → List ℕ → List ℕ → Board
+empty slots words m = untagged slots words (0 ∷ 0 ∷ 0 ∷ 0 ∷ []) (lineWith 0 ++ lineWith 0) m
 
--- the first line of the page held and changed
-abbrev changed : Bool → ℕ → Board
-changed write value = mappedBoard (slots2 write) (0x20000000 ∷ 7 ∷ []) (bytesWith value 0) (zeros 4096)
+-- memory with one frame filled with zeros, and with both
+abbrev memory1 : List ℕ
+memory1 = zeroedFrame memory 1
 
--- the third line held, the first written back; then the first held again
-abbrev evicted : Board
-evicted = mappedBoard (slots2 false) (0x20000002 ∷ 19 ∷ []) (zeros 16) (bytesWith 50 4080)
+abbrev memory2 : List ℕ
+memory2 = zeroedFrame memory1 2
 
-abbrev back : Board
-back = mappedBoard (slots2 false) (0x20000000 ∷ 3 ∷ []) (bytesWith 50 0) (bytesWith 50 4080)
+-- the line of process 0 with the 50, the line of process 1 with the 7, and the one with the 9
+abbrev ours : Line
+ours = newLine 0x20000000 256 true
+
+abbrev others : Line
+others = newLine 0x20040000 512 true
+
+abbrev othersNext : Line
+othersNext = newLine 0x20040001 513 true
+
+-- record 0 holds a line with this value in it; record 1 none
+abbrev holding : Bool → Line → ℕ → List ℕ → Board
+holding write l value m = untagged (slots3 write) words2 (l .name ∷ wordOf l ∷ 0 ∷ 0 ∷ []) (lineWith value ++ lineWith 0) m
+
+-- run B: record 0 holds the 50, and record 1 the 9
+abbrev apart : List ℕ → Board
+apart m = untagged (slots3 false) words2
+    (ours .name ∷ wordOf (changedLine ours) ∷ othersNext .name ∷ wordOf (changedLine othersNext) ∷ []) (lineWith 50 ++ lineWith 9) m
+
+-- the end of run A: the 7 is held, not changed
+abbrev last : List ℕ → Board
+last m = holding false others 7 m
 
 -- ---- the calls of the runs
 
-does-map : Does start (supervisor (map 0x200000 0 true)) (answer 0 0 0) (empty slots0)
-unfolding ones onesIn fitsShape lowestFrom lowestFrame mappedTo lineAt holdsLine holdsAt visited sweep visitedAll byTable isMapped mapPage mapped supervise step
-does-map = record { does = rw (length-zeros 16, length-zeros 4096, zeroed-whole (zeros 4096) (length-zeros 4096)) }
+does-map-first : Does shape start (supervisor (map 0x200000 1 true)) (answer 0 0 0) (empty slots0 words1 memory1)
+unfolding ones onesIn fitsShape lowestFrom lowestFrame mappedTo zeros lineAt holdsLine holdsAt visited sweep visitedAll byTable isMapped mapPage mapped supervise step
+does-map-first = record { does = rw length-memory }
 
-does-attach : Does (empty slots0) (supervisor (attach 0 0 2048 true)) (answer 0 0 0) (empty slots1)
-unfolding ones onesIn fitsShape zeros byTable calls.attach supervise step
-does-attach = record { does = refl }
+module _ (m : List ℕ) (fits : length m ≡ 16384) where
+  does-map-second : Does shape (empty slots0 words1 m) (supervisor (map 0x200400 2 true)) (answer 0 0 0) (empty slots0 words2 (zeroedFrame m 2))
+  unfolding ones onesIn fitsShape lowestFrom lowestFrame mappedTo lineAt holdsLine holdsAt visited sweep visitedAll byTable isMapped mapPage mapped supervise step
+  does-map-second = record { does = rw fits }
 
-does-second : (write : Bool) → Does (empty slots1) (supervisor (attach 1 0 2048 write)) (answer 0 0 0) (empty (slots2 write))
-unfolding ones onesIn fitsShape zeros byTable calls.attach supervise step
-does-second write = record { does = refl }
+  does-attach-own : Does shape (empty slots0 words2 m) (supervisor (attach 0 0 2048 true)) (answer 0 0 0) (empty slots1 words2 m)
+  unfolding ones onesIn fitsShape byTable calls.attach supervise step
+  does-attach-own = record { does = rw fits }
 
-does-save : (write : Bool) → Does (empty (slots2 write)) (save 0 4 0 50) (answer 0 0 0) (changed write 50)
-unfolding ones onesIn part splice fitsShape lowestFrom lowestFrame mappedTo homeBy homeOf digits stored lineOf withLine zeros lineAt putLine holdsLine holdsAt holderFrom holderOf writtenBack filled noted inserted performedAt wayByHome wayBy wayOf unreached mayWrite byTable alignedTo performedOn accessedBy accessed userTable userAccess step
-does-save write = record { does = refl }
+  module _ (write : Bool) where
+    does-attach-shared : Does shape (empty slots1 words2 m) (supervisor (attach 1 0 2048 write)) (answer 0 0 0) (empty (slots2 write) words2 m)
+    unfolding ones onesIn fitsShape byTable calls.attach supervise step
+    does-attach-shared = record { does = rw fits }
 
-does-evict : Does (changed false 50) (load 1 32) (answer 0 0 0) evicted
-unfolding ones onesIn part splice fitsShape lowestFrom lowestFrame mappedTo homeBy homeOf number lineOf withLine zeros lineAt putLine holdsLine holdsAt holderFrom holderOf writtenBack filled noted inserted performedAt wayByHome wayBy wayOf unreached mayWrite byTable alignedTo performedOn accessedBy accessed userTable userAccess step
-does-evict = record { does = refl }
+    does-attach-other : Does shape (empty (slots2 write) words2 m) (supervisor (attach 1 1 2049 true)) (answer 0 0 0) (empty (slots3 write) words2 m)
+    unfolding ones onesIn fitsShape byTable calls.attach supervise step
+    does-attach-other = record { does = rw fits }
 
-does-load : Does evicted (load 0 3) (answer 0 50 0) back
-unfolding ones onesIn part splice fitsShape lowestFrom lowestFrame mappedTo homeBy homeOf number lineOf withLine zeros lineAt putLine holdsLine holdsAt holderFrom holderOf writtenBack filled noted inserted performedAt wayByHome wayBy wayOf unreached mayWrite byTable alignedTo performedOn accessedBy accessed userTable userAccess step
-does-load = record { does = refl }
+    does-save-fifty : lineOf m 256 ≡ lineWith 0 → Does shape (empty (slots3 write) words2 m) (save 0 4 0 50) (answer 0 0 0) (holding write (changedLine ours) 50 m)
+    unfolding ones onesIn part splice fitsShape lowestFrom lowestFrame mappedTo homeBy homeOf digits stored withLine lineAt putLine holdsLine holdsAt holderFrom holderOf writtenBack filled noted inserted performedAt wayByHome wayBy wayOf unreached mayWrite byTable alignedTo performedOn accessedBy accessed userTable userAccess step
+    does-save-fifty h = record { does = rw (fits, h) }
 
--- in run B and in run D the line is still held
-does-hit : (write : Bool) → Does (changed write 50) (load 0 3) (answer 0 50 1) (changed write 50)
-unfolding ones onesIn fitsShape number zeros lineAt holdsLine holdsAt holderFrom holderOf performedAt wayBy wayOf unreached mayWrite byTable alignedTo performedOn accessedBy accessed userTable userAccess step
-does-hit write = record { does = refl }
+    -- the line of process 0 is held, changed
+    does-hit : (value : ℕ) → Does shape (holding write (changedLine ours) value m) (load 0 3) (answer 0 value 1) (holding write (changedLine ours) value m)
+    unfolding ones onesIn fitsShape number lineAt holdsLine holdsAt holderFrom holderOf performedAt wayBy wayOf unreached mayWrite byTable alignedTo performedOn accessedBy accessed userTable userAccess step
+    does-hit value = record { does = rw (fits, zero-add) }
 
--- in run C process 1 stores over it
-does-over : Does (changed true 50) (save 1 1 3 7) (answer 0 0 1) (changed true 7)
-unfolding ones onesIn splice fitsShape digits stored zeros lineAt putLine holdsLine holdsAt holderFrom holderOf performedAt wayBy wayOf unreached mayWrite byTable alignedTo performedOn accessedBy accessed userTable userAccess step
-does-over = record { does = refl }
+  -- run A: process 1 loads the 50
+  does-hit-shared : Does shape (holding false (changedLine ours) 50 m) (load 1 3) (answer 0 50 1) (holding false (changedLine ours) 50 m)
+  unfolding ones onesIn fitsShape number lineAt holdsLine holdsAt holderFrom holderOf performedAt wayBy wayOf unreached mayWrite byTable alignedTo performedOn accessedBy accessed userTable userAccess step
+  does-hit-shared = record { does = rw fits }
 
-does-seven : Does (changed true 7) (load 0 3) (answer 0 7 1) (changed true 7)
-unfolding ones onesIn fitsShape number zeros lineAt holdsLine holdsAt holderFrom holderOf performedAt wayBy wayOf unreached mayWrite byTable alignedTo performedOn accessedBy accessed userTable userAccess step
-does-seven = record { does = refl }
+  -- its store of 7 pushes the 50 out
+  does-push : lineOf (withLine m 256 (lineWith 50)) 512 ≡ lineWith 0
+      → Does shape (holding false (changedLine ours) 50 m) (save 1 4 0x400000 7) (answer 0 0 0) (holding false (changedLine others) 7 (withLine m 256 (lineWith 50)))
+  unfolding ones onesIn part splice fitsShape lowestFrom lowestFrame mappedTo homeBy homeOf digits stored lineOf withLine lineAt putLine holdsLine holdsAt holderFrom holderOf writtenBack filled noted inserted performedAt wayByHome wayBy wayOf unreached mayWrite byTable alignedTo performedOn accessedBy accessed userTable userAccess step
+  does-push h = record { does = rw (fits, h) }
 
--- after run A process 1 may not store
-does-refuse : Does back (save 1 1 0 9) (answer 7 0 0) back
-unfolding ones onesIn fitsShape zeros byTable alignedTo userTable userAccess step
-does-refuse = record { does = refl }
+  -- process 0 loads its 50 from memory, which pushes the 7 out
+  does-load-fifty : lineOf (withLine m 512 (lineWith 7)) 256 ≡ lineWith 50
+      → Does shape (holding false (changedLine others) 7 m) (load 0 3) (answer 0 50 0) (holding false ours 50 (withLine m 512 (lineWith 7)))
+  unfolding ones onesIn part splice fitsShape lowestFrom lowestFrame mappedTo homeBy homeOf number lineOf withLine lineAt putLine holdsLine holdsAt holderFrom holderOf writtenBack filled noted inserted performedAt wayByHome wayBy wayOf unreached mayWrite byTable alignedTo performedOn accessedBy accessed userTable userAccess step
+  does-load-fifty h = record { does = rw (fits, h) }
+
+  -- process 1 loads its 7 from memory; the 50 that leaves is not changed
+  does-load-seven : lineOf m 512 ≡ lineWith 7 → Does shape (holding false ours 50 m) (load 1 0x400003) (answer 0 7 0) (last m)
+  unfolding ones onesIn part splice fitsShape lowestFrom lowestFrame mappedTo homeBy homeOf number lineOf withLine lineAt putLine holdsLine holdsAt holderFrom holderOf writtenBack filled noted inserted performedAt wayByHome wayBy wayOf unreached mayWrite byTable alignedTo performedOn accessedBy accessed userTable userAccess step
+  does-load-seven h = record { does = rw (fits, h) }
+
+  -- run B: the 9 goes to record 1, the 8 is refused, and the 50 is still held
+  does-save-nine : lineOf m 513 ≡ lineWith 0 → Does shape (holding false (changedLine ours) 50 m) (save 1 4 0x400010 9) (answer 0 0 0) (apart m)
+  unfolding ones onesIn part splice fitsShape lowestFrom lowestFrame mappedTo homeBy homeOf digits stored lineOf withLine lineAt putLine holdsLine holdsAt holderFrom holderOf writtenBack filled noted inserted performedAt wayByHome wayBy wayOf unreached mayWrite byTable alignedTo performedOn accessedBy accessed userTable userAccess step
+  does-save-nine h = record { does = rw (fits, h) }
+
+  does-refuse : Does shape (apart m) (save 1 1 3 8) (answer 7 0 0) (apart m)
+  unfolding ones onesIn fitsShape byTable alignedTo userTable userAccess step
+  does-refuse = record { does = rw fits }
+
+  does-hit-apart : Does shape (apart m) (load 0 3) (answer 0 50 1) (apart m)
+  unfolding ones onesIn fitsShape number lineAt holdsLine holdsAt holderFrom holderOf performedAt wayBy wayOf unreached mayWrite byTable alignedTo performedOn accessedBy accessed userTable userAccess step
+  does-hit-apart = record { does = rw fits }
+
+  -- run C: process 1 stores over the 50
+  does-over : Does shape (holding true (changedLine ours) 50 m) (save 1 1 3 7) (answer 0 0 1) (holding true (changedLine ours) 7 m)
+  unfolding ones onesIn splice fitsShape digits stored lineAt putLine holdsLine holdsAt holderFrom holderOf performedAt wayBy wayOf unreached mayWrite byTable alignedTo performedOn accessedBy accessed userTable userAccess step
+  does-over = record { does = rw fits }
+
+  -- after run A: two refusals, and what look shows
+  refuse-user : LowerGiven (last m) (save 1 4 2 8) 4 7
+  unfolding ones onesIn fitsShape byTable alignedTo userTable userAccess step rowsOf appliesIn
+  refuse-user = record { low-applies = rw fits; high-applies = rw fits; in-order = omega arith; low-given = rw fits }
+
+  refuse-map : LowerGiven (last m) (supervisor (map 0x200000 1 true)) 10 11
+  unfolding ones onesIn fitsShape lowestFrom lowestFrame mappedTo byTable isMapped mapPage supervise step supervisorRows rowsOf appliesIn
+  refuse-map = record { low-applies = rw fits; high-applies = rw fits; in-order = omega arith; low-given = rw fits }
+
+  look-last : look shape (last m) 256 ≡ lineOf m 256
+  unfolding ones onesIn fitsShape lineAt holdsLine holdsAt keepsLine keeperFrom keeperOf currentBy current byTable look
+  look-last = rw fits
+
+  look-apart : look shape (apart m) 256 ≡ lineWith 50
+  unfolding ones onesIn part fitsShape lineOf lineAt holdsLine holdsAt keepsLine keeperFrom keeperOf currentBy current byTable look
+  look-apart = rw fits
 
 -- ---- the runs
 
--- a list of calls, call by call
-infixr 5 _then_
-data Ran : Board → List Call → List Answer → Board → Type 0 where
-  ended : {b : Board} → Ran b [] [] b
-  _then_ : {b c d : Board} {k : Call} {ks : List Call} {a : Answer} {l : List Answer} → Does b k a c → Ran c ks l d → Ran b (k ∷ ks) (a ∷ l) d
+-- the memory of run A: the zeros of the maps, then the 50, then the 7
+memory1-fits : length memory1 ≡ 16384
+memory1-fits = length-zeroed memory 1 ∙ length-memory
 
-ran-answers : {b c : Board} {ks : List Call} {l : List Answer} → Ran b ks l c → answers shape b ks ≡ l
-unfolding answers
-ran-answers ended = refl
-ran-answers (x then r) = let e = x .does in rw (e, ran-answers r)
+memory2-fits : length memory2 ≡ 16384
+memory2-fits = length-zeroed memory1 2 ∙ memory1-fits
 
-ran-after : {b c : Board} {ks : List Call} {l : List Answer} → Ran b ks l c → after shape b ks ≡ c
-unfolding after
-ran-after ended = refl
-ran-after (x then r) = let e = x .does in rw e (ran-after r)
+abbrev memory3 : List ℕ
+memory3 = withLine memory2 256 (lineWith 50)
 
-ran-replies : {b c : Board} {ks : List Call} {l : List Answer} → Ran b ks l c → replies shape b ks ≡ each reply l
-unfolding replies
-ran-replies ended = refl
-ran-replies (x then r) = let e = x .does in rw (e, ran-replies r)
+memory3-fits : length memory3 ≡ 16384
+memory3-fits = length-line memory2 256 (lineWith 50) ∙ memory2-fits
 
--- the replies among these answers to the accesses of a process
-unfoldable kept : ℕ → List Call → List Answer → List Reply
-kept process [] l = []
-kept process (user q u e ∷ ks) [] = []
-kept process (user q u e ∷ ks) (a ∷ l) = cond (eqb q process) (reply a ∷ kept process ks l) (kept process ks l)
-kept process (supervisor u ∷ ks) [] = []
-kept process (supervisor u ∷ ks) (a ∷ l) = kept process ks l
+abbrev memory4 : List ℕ
+memory4 = withLine memory3 512 (lineWith 7)
 
-ran-replies-to : (process : ℕ) {b c : Board} {ks : List Call} {l : List Answer} → Ran b ks l c → repliesTo process shape b ks ≡ kept process ks l
-unfolding repliesTo kept
-ran-replies-to process ended = refl
-ran-replies-to process (_then_ {k = user q u i} x r) = let e = x .does in rw (e, ran-replies-to process r)
-ran-replies-to process (_then_ {k = supervisor u} x r) = let e = x .does in rw e (ran-replies-to process r)
+memory4-fits : length memory4 ≡ 16384
+memory4-fits = length-line memory3 512 (lineWith 7) ∙ memory3-fits
 
--- what the slots of a run never pass, and what those at its end pass
-module _ (test : List ℕ → Bool) where
-  unfoldable Throughout : {b c : Board} {ks : List Call} {l : List Answer} → Ran b ks l c → Type 0
-  Throughout (ended {b}) = test (b .slots) ≡ false
-  Throughout (_then_ {b} x r) = (test (b .slots) ≡ false) × Throughout r
+memory2-first : lineOf memory2 256 ≡ lineWith 0
+memory2-first = zeroed-elsewhere memory1 memory1-fits 256 (omega arith) 2 (omega arith) ∙ zeroed-here memory length-memory 256 (omega arith) 1 refl
 
-  never : {b c : Board} {ks : List Call} {l : List Answer} (r : Ran b ks l c) → Throughout r → atSomeMoment test shape b ks ≡ false
-  unfolding Throughout atSomeMoment
-  never ended h = h
-  never (x then r) h = let e = x .does in rw (h .0, e) (never r (h .1))
+memory2-other : (p : ℕ) → p < 1024 → p / 256 ≡ 2 → lineOf memory2 p ≡ lineWith 0
+memory2-other p b h = zeroed-here memory1 memory1-fits p b 2 h
 
-  finally : {b c : Board} {ks : List Call} {l : List Answer} → Ran b ks l c → test (c .slots) ≡ true → atSomeMoment test shape b ks ≡ true
-  unfolding atSomeMoment
-  finally ended h = h
-  finally (_then_ {b} {c} {ks = ks} x r) h = let e = x .does in rw e (or-right (test (b .slots)) (atSomeMoment test shape c ks) (finally r h))
+memory3-first : lineOf memory3 256 ≡ lineWith 50
+memory3-first = written-here memory2 memory2-fits 256 (omega arith) 50
 
-ranA : Ran start runA (answer 0 0 0 ∷ answer 0 0 0 ∷ answer 0 0 0 ∷ answer 0 0 0 ∷ answer 0 0 0 ∷ answer 0 50 0 ∷ []) back
-ranA = does-map then does-attach then does-second false then does-save false then does-evict then does-load then ended
+memory3-other : lineOf memory3 512 ≡ lineWith 0
+memory3-other = written-elsewhere memory2 memory2-fits 512 (omega arith) 50 256 (omega arith) ∙ memory2-other 512 (omega arith) refl
 
-ranB : Ran start runB (answer 0 0 0 ∷ answer 0 0 0 ∷ answer 0 0 0 ∷ answer 0 0 0 ∷ answer 0 50 1 ∷ []) (changed false 50)
-ranB = does-map then does-attach then does-second false then does-save false then does-hit false then ended
+memory4-first : lineOf memory4 256 ≡ lineWith 50
+memory4-first = written-elsewhere memory3 memory3-fits 256 (omega arith) 7 512 (omega arith) ∙ memory3-first
 
-ranC : Ran start runC (answer 0 0 0 ∷ answer 0 0 0 ∷ answer 0 0 0 ∷ answer 0 0 0 ∷ answer 0 0 1 ∷ answer 0 7 1 ∷ []) (changed true 7)
-ranC = does-map then does-attach then does-second true then does-save true then does-over then does-seven then ended
+memory4-other : lineOf memory4 512 ≡ lineWith 7
+memory4-other = written-here memory3 memory3-fits 512 (omega arith) 7
 
-ranD : Ran start runD (answer 0 0 0 ∷ answer 0 0 0 ∷ answer 0 0 0 ∷ answer 0 0 0 ∷ answer 0 50 1 ∷ []) (changed true 50)
-ranD = does-map then does-attach then does-second true then does-save true then does-hit true then ended
+-- the opening
+abbrev six : List Answer → List Answer
+six l = answer 0 0 0 ∷ answer 0 0 0 ∷ answer 0 0 0 ∷ answer 0 0 0 ∷ answer 0 0 0 ∷ answer 0 0 0 ∷ l
+
+ran-opening : (write : Bool) {ks : List Call} {l : List Answer} {c : Board} → Ran shape (holding write (changedLine ours) 50 memory2) ks l c → Ran shape start (opening write ks) (six l) c
+ran-opening write r =
+    does-map-first then does-map-second memory1 memory1-fits then does-attach-own memory2 memory2-fits then does-attach-shared memory2 memory2-fits write
+    then does-attach-other memory2 memory2-fits write then does-save-fifty memory2 memory2-fits write memory2-first then r
+
+ran-pushing : {ks : List Call} {l : List Answer} {c : Board} → Ran shape (holding false (changedLine others) 7 memory3) ks l c
+    → Ran shape start (pushing ks) (six (answer 0 50 1 ∷ answer 0 0 0 ∷ l)) c
+ran-pushing r = ran-opening false (does-hit-shared memory2 memory2-fits then does-push memory2 memory2-fits memory3-other then r)
+
+ranA : Ran shape start runA (six (answer 0 50 1 ∷ answer 0 0 0 ∷ answer 0 50 0 ∷ answer 0 7 0 ∷ [])) (last memory4)
+ranA = ran-pushing (does-load-fifty memory3 memory3-fits memory4-first then does-load-seven memory4 memory4-fits memory4-other then ended)
+
+ranB : Ran shape start runB (six (answer 0 0 0 ∷ answer 7 0 0 ∷ answer 0 50 1 ∷ [])) (apart memory2)
+ranB =
+    ran-opening false (does-save-nine memory2 memory2-fits (memory2-other 513 (omega arith) refl) then does-refuse memory2 memory2-fits
+    then does-hit-apart memory2 memory2-fits then ended)
+
+ranC : Ran shape start runC (six (answer 0 0 1 ∷ answer 0 7 1 ∷ [])) (holding true (changedLine ours) 7 memory2)
+ranC = ran-opening true (does-over memory2 memory2-fits then does-hit memory2 memory2-fits true 7 then ended)
+
+ranD : Ran shape start runD (six (answer 0 50 1 ∷ [])) (holding true (changedLine ours) 50 memory2)
+ranD = ran-opening true (does-hit memory2 memory2-fits true 50 then ended)
 
 -- ---- the slots of the runs
 
--- process 1 holds nothing for writing in run A
-and-false : (t : Bool) → ((t && false) || false) ≡ false
-and-false true = refl
-and-false false = refl
+-- what the slots of the opening don't pass, those of run A never pass
+module _ (test : List ℕ → Bool) (none : test slots0 ≡ false) (own : test slots1 ≡ false) (shared : test (slots2 false) ≡ false) (all : test (slots3 false) ≡ false) where
+  never-A : atSomeMoment test shape start runA ≡ false
+  unfolding Throughout ran-opening ran-pushing ranA
+  never-A = never test ranA (none, (none, (none, (own, (shared, (all, (all, (all, (all, (all, all))))))))))
 
-module _ (segment : ℕ) where
-  writes-none : holdsForWriting slots0 1 segment ≡ false
-  unfolding someSlot
-  writes-none = refl
+-- process 0 holds no segment but 2048
+module _ (segment : ℕ) (other : eqb 2048 segment ≡ false) where
+  abbrev mine : List ℕ → Bool
+  mine slots = holds slots 0 segment
 
-  writes-first : holdsForWriting slots1 1 segment ≡ false
-  unfolding someSlot
-  writes-first = refl
+  mine-none : mine slots0 ≡ false
+  mine-none = some-fresh (wordHolds segment) 1024 0 512 refl
 
-  writes-read-only : holdsForWriting (slots2 false) 1 segment ≡ false
-  unfolding someSlot
-  writes-read-only = and-false (eqb 2048 segment)
+  mine-own : mine slots1 ≡ false
+  mine-own = some-failing (wordHolds segment) slots0 0 0 (slotWord 2048 true) 512 other mine-none
 
-  never-writes : everWrites shape start runA 1 segment ≡ false
-  unfolding Throughout ranA
-  never-writes =
-      never (λ slots. holdsForWriting slots 1 segment) ranA
-      (writes-none, (writes-none, (writes-first, (writes-read-only, (writes-read-only, (writes-read-only, writes-read-only))))))
+  mine-shared : mine (slots2 false) ≡ false
+  mine-shared = some-outside (wordHolds segment) slots1 0 512 (slotWord 2048 false) 512 (λ k b. omega arith) ∙ mine-own
 
--- slot 0 passes the test
-some-first : (test : ℕ → Bool) (slots : List ℕ) (process n : ℕ) → test (getD slots (slotIndex process 0) 0) ≡ true → someSlot test slots process (suc n) ≡ true
-unfolding someSlot
-some-first test slots process zero h = or-left (test (getD slots (slotIndex process 0) 0)) false h
-some-first test slots process (suc n) h =
-    or-right (test (getD slots (slotIndex process (suc n)) 0)) (someSlot test slots process (suc n)) (some-first test slots process n h)
+  mine-all : mine (slots3 false) ≡ false
+  mine-all = some-outside (wordHolds segment) (slots2 false) 0 513 (slotWord 2049 true) 512 (λ k b. omega arith) ∙ mine-shared
 
-holds-own : (write : Bool) → holds (slots2 write) 0 2048 ≡ true
-holds-own write = some-first (wordHolds 2048) (slots2 write) 0 511 refl
+  never-holds : everHolds shape start runA 0 segment ≡ false
+  never-holds = never-A mine mine-none mine-own mine-shared mine-all
 
-holds-other : holds (slots2 false) 1 2048 ≡ true
-holds-other = some-first (wordHolds 2048) (slots2 false) 1 511 refl
+-- process 1 holds 2048, but not for writing
+abbrev theirs : List ℕ → Bool
+theirs slots = holdsForWriting slots 1 2048
 
-writes-other : holdsForWriting (slots2 true) 1 2048 ≡ true
-writes-other = some-first (wordWritesTo 2048) (slots2 true) 1 511 refl
+theirs-none : theirs slots0 ≡ false
+theirs-none = some-fresh (wordWritesTo 2048) 1024 1 512 refl
+
+theirs-own : theirs slots1 ≡ false
+theirs-own = some-outside (wordWritesTo 2048) slots0 1 0 (slotWord 2048 true) 512 (λ k b. omega arith) ∙ theirs-none
+
+theirs-shared : theirs (slots2 false) ≡ false
+theirs-shared = some-failing (wordWritesTo 2048) slots1 1 512 (slotWord 2048 false) 512 refl theirs-own
+
+theirs-all : theirs (slots3 false) ≡ false
+theirs-all = some-failing (wordWritesTo 2048) (slots2 false) 1 513 (slotWord 2049 true) 512 refl theirs-shared
+
+never-writes : everWrites shape start runA 1 2048 ≡ false
+never-writes = never-A theirs theirs-none theirs-own theirs-shared theirs-all
+
+-- at the end
+holds-own : (write : Bool) → holds (slots3 write) 0 2048 ≡ true
+holds-own write = some-slot (wordHolds 2048) (slots3 write) 0 0 512 (omega arith) refl
+
+holds-shared : holds (slots3 false) 1 2048 ≡ true
+holds-shared = some-slot (wordHolds 2048) (slots3 false) 1 0 512 (omega arith) refl
+
+writes-shared : holdsForWriting (slots3 true) 1 2048 ≡ true
+writes-shared = some-slot (wordWritesTo 2048) (slots3 true) 1 0 512 (omega arith) refl
+
+writes-other : holdsForWriting (slots3 false) 1 2049 ≡ true
+writes-other = some-slot (wordWritesTo 2049) (slots3 false) 1 1 512 (omega arith) refl
 
 -- ---- the examples
 
+fresh-start : Fresh start
+fresh-start = fresh-zeros shape (zeros 32) memory
+
 pub example1 : Example1
-example1 = rw (ran-after ranA) (does-refuse .does)
+example1 = record {
+  user-refused = rw (ran-after ranA) (refuse-user memory4 memory4-fits);
+  supervisor-refused = rw (ran-after ranA) (refuse-map memory4 memory4-fits);
+}
+
+-- the board at the end of run A's first parts
+after-opening : after shape start (opening false []) ≡ holding false (changedLine ours) 50 memory2
+after-opening = ran-after (ran-opening false ended)
+
+after-pushing : after shape start (pushing []) ≡ holding false (changedLine others) 7 memory3
+after-pushing = ran-after (ran-pushing ended)
+
+look-A : look shape (after shape start runA) 256 ≡ lineWith 50
+look-A = rw (ran-after ranA) (look-last memory4 memory4-fits ∙ memory4-first)
 
 pub example2 : Example2
+unfolding lineAt
 example2 = record {
   answers-are = ran-answers ranA;
-  replies-are = ran-replies ranA;
-  plain-replies = sym (demand2 shape start (fresh-zeros shape (zeros 16) (zeros 4096)) runA .same-replies) ∙ ran-replies ranA;
+  record-before = rw after-opening;
+  memory-before = rw after-opening memory2-first;
+  record-after = rw after-pushing;
+  memory-after = rw after-pushing memory3-first;
+  plain-replies = sym (demand2 shape start fresh-start runA .same-replies) ∙ ran-replies ranA;
+  plain-bytes = sym (demand2 shape start fresh-start runA .same-bytes 256) ∙ look-A;
 }
 
+apart-A : Apart shape start runA 0
+apart-A segment other b d e f = go (eqb 2048 segment) refl
+  where
+    go : (t : Bool) → eqb 2048 segment ≡ t → ⊥
+    go true t =
+        let y : 2048 ≡ segment = eqb-true 2048 segment t in
+        let z : other ≡ 1 = omega arith in
+        clash (everWrites shape start runA 1 2048) (rw (z, ← y) at f) never-writes
+    go false t = clash (everHolds shape start runA 0 segment) e (never-holds segment t)
+
 pub example3 : Example3
-unfolding kept withoutOthers
+unfolding kept withoutOthers lowestFrom lowestFrame mappedTo
 example3 = record {
-  premise-met = λ segment other b d e f.
-      let z : other ≡ 1 = omega arith in
-      clash (everWrites shape start runA 1 segment) (rw z at f) (never-writes segment);
+  premise-met = apart-A;
   same-calls = refl;
-  held = finally (λ slots. holds slots 0 2048) ranA (holds-own false);
-  held-by-other = finally (λ slots. holds slots 1 2048) ranA holds-other;
-  replies-with = ran-replies-to 0 ranA;
-  replies-without = ran-replies-to 0 ranB;
-  answers-with = ran-answers ranA;
-  answers-without = ran-answers ranB;
+  held = held-A;
+  held-by-other = finally (λ slots. holds slots 1 2048) ranA holds-shared;
+  written-by-other = finally (λ slots. holdsForWriting slots 1 2049) ranA writes-other;
+  others-own = never-holds 2049 refl;
+  promised = demand3 .apart shape start fresh-start runA runB 0 refl apart-A;
+  replies-A = ran-replies-to 0 ranA;
+  replies-B = ran-replies-to 0 ranB;
+  answers-B = ran-answers ranB;
+  page-held = held-A;
+  page-mapped = rw (ran-after ranA);
+  line-in-frame = refl;
+  look-A = look-A;
+  look-B = rw (ran-after ranB) (look-apart memory2 memory2-fits);
+  memory-A = rw (ran-after ranA) memory4-first;
+  memory-B = rw (ran-after ranB) memory2-first;
 }
+  where
+    held-A : everHolds shape start runA 0 2048 ≡ true
+    held-A = finally (λ slots. holds slots 0 2048) ranA (holds-own false)
 
 values-apart : _≡_ {A = List Reply} (gets 0 0 ∷ gets 0 7 ∷ []) (gets 0 0 ∷ gets 0 50 ∷ []) → ⊥
 values-apart e = let z : _≡_ {A = ℕ} 7 50 = ap (λ (l : List Reply). getD l 1 (gets 0 0) .value) e in omega arith
@@ -266,7 +422,7 @@ unfolding kept withoutOthers
 broken3 = record {
   premise-broken = λ apart.
       apart 2048 1 (omega arith) (λ e. omega arith) (finally (λ slots. holds slots 0 2048) ranC (holds-own true))
-      (finally (λ slots. holdsForWriting slots 1 2048) ranC writes-other);
+      (finally (λ slots. holdsForWriting slots 1 2048) ranC writes-shared);
   same-calls = refl;
   replies-with = ran-replies-to 0 ranC;
   replies-without = ran-replies-to 0 ranD;
