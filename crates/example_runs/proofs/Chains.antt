@@ -14,9 +14,9 @@ use Rattle.board.specs.declared.Answer.{Answer}
 use Rattle.board.proofs.Bools.{or-left, or-right, or-false}
 use Rattle.slots.specs.Slots.{slotIndex}
 use Rattle.machine.specs.Boards.{Board, outcome}
+use Rattle.store_laws.proofs.Zeroed.{zeros-at}
 use Rattle.promises.specs.Runs.{Call, user, supervisor, step, after, Reply, reply, replies}
 use Rattle.promises.specs.Demand3.{someSlot, atSomeMoment, repliesTo}
-use Rattle.store_laws.proofs.Zeroed.{zeros-at}
 use Rattle.example_runs.specs.Examples.{answers}
 
 -- ---- calls, one after the other

@@ -13,34 +13,34 @@ use borrow.Author.Tests.{eqb-true}
 use Rattle.board.specs.Answers.{answer}
 use Rattle.board.specs.Lists.{part, splice}
 use Rattle.board.specs.Shapes.{fitsShape}
+use Rattle.board.specs.declared.Answer.{Answer}
+use Rattle.board.proofs.Bools.{clash}
 use Rattle.slots.specs.Slots.{slotWord}
 use Rattle.pages.specs.Pages.{frameWord, lowestFrom, lowestFrame, mappedTo, homeBy, homeOf}
-use Rattle.board.specs.declared.Answer.{Answer}
 use Rattle.line_bytes.specs.Bytes.{number, digits, stored, lineOf, withLine, zeros, zeroedFrame}
+use Rattle.line_bytes.proofs.Bytes.{length-line}
 use Rattle.lines.specs.Records.{wordOf, lineAt, putLine, newLine, changedLine}
 use Rattle.lines.specs.declared.Line.{Line}
 use Rattle.lines.specs.Holds.{holdsLine, holdsAt, holderFrom, holderOf, keepsLine, keeperFrom, keeperOf}
 use Rattle.stores.specs.Stores.{writtenBack, filled, noted, inserted, performedAt, currentBy, current}
 use Rattle.reach.specs.Reach.{wayByHome, wayBy, wayOf, unreached, mayWrite}
 use Rattle.visits.specs.Visits.{visited, sweep, visitedAll}
-use Rattle.line_bytes.proofs.Bytes.{length-line}
 use Rattle.machine.specs.Boards.{Board, board, noTag, Fresh}
 use Rattle.machine.specs.Refusals.{byTable, alignedTo, isMapped}
 use Rattle.machine.specs.Accesses.{performedOn, accessedBy, accessed, userTable, userAccess}
 use Rattle.machine.specs.Calls as calls
 use Rattle.machine.specs.Calls.{mapPage, mapped}
 use Rattle.machine.specs.Looks.{look}
+use Rattle.store_laws.proofs.Bytes.{line-ext, line-same, copied-at, line-with-other}
+use Rattle.store_laws.proofs.Zeroed.{zeros-at, length-zeroed, zeroed-line-in, zeroed-line-out}
 use Rattle.promises.specs.Runs.{attach, map, Call, supervisor, supervise, step, after, Reply}
 use Rattle.promises.specs.Demand1.{supervisorRows, rowsOf, appliesIn}
 use Rattle.promises.specs.Demand3.{wordHolds, wordWritesTo, holds, holdsForWriting, atSomeMoment, everHolds, everWrites, Apart, withoutOthers}
-use Rattle.example_runs.proofs.Chains.{Does, Ran, ended, _then_, kept, ran-answers, ran-after, ran-replies, ran-replies-to, Throughout, never, finally, some-slot, some-fresh, some-failing, some-outside}
-use Rattle.example_runs.specs.Examples.{shape, memory, start, load, save, opening, pushing, runA, runB, runC, runD, gets, lineWith, LowerGiven, Example1, Example2, Example3, Broken3}
-use Rattle.board.proofs.Bools.{clash}
-use Rattle.store_laws.proofs.Bytes.{line-ext, line-same, copied-at, line-with-other}
-use Rattle.store_laws.proofs.Zeroed.{zeros-at, length-zeroed, zeroed-line-in, zeroed-line-out}
 use Rattle.promises.proofs.Soundness.{fresh-zeros}
 use Rattle.promises.proofs.Demand2.{demand2}
 use Rattle.promises.proofs.Demand3.{demand3}
+use Rattle.example_runs.specs.Examples.{shape, memory, start, load, save, opening, pushing, runA, runB, runC, runD, gets, lineWith, LowerGiven, Example1, Example2, Example3, Broken3}
+use Rattle.example_runs.proofs.Chains.{Does, Ran, ended, _then_, kept, ran-answers, ran-after, ran-replies, ran-replies-to, Throughout, never, finally, some-slot, some-fresh, some-failing, some-outside}
 
 -- ---- the memory of the runs
 

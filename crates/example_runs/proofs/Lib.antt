@@ -1,3 +1,4 @@
 pub mod Chains
 pub mod Examples
+pub mod Copies
 pub mod Uncached

@@ -1,2 +1,2 @@
-// No code: small runs that meet the premises of the demands, so that none of them speaks of nothing, and one pair of runs in
-// which the premise of demand 3 fails and the replies differ.
+// No code: small runs that meet the premises of the demands, so that none of them speaks of nothing; one pair of runs in which the
+// premise of demand 3 fails and the replies differ; and where "no two copies of one line" is more than arithmetic.

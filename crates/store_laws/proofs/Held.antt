@@ -48,7 +48,7 @@ module _ (ways : ℕ) (s : Shape) (i : ℕ) where
   holds-permitted l write = refl
 
 module _ (ways : ℕ) (s : Shape) (r : List ℕ) (i : ℕ) where
-  held-place : holdsAt ways s r i ≡ true → i / ways ≡ placeOf ways s (lineAt r i .name)
+  pub held-place : holdsAt ways s r i ≡ true → i / ways ≡ placeOf ways s (lineAt r i .name)
   unfolding holdsAt
   held-place h = holds-place ways s i (lineAt r i) h
 
