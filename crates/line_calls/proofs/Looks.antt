@@ -18,7 +18,7 @@ use Rattle.stores.specs.Stores.{store, currentBy, current}
 use Rattle.lines.specs.Holds.{keepsLine, keeperFrom, keeperOf}
 use Rattle.machine.specs.Boards.{board}
 use Rattle.machine.specs.Refusals.{byTable}
-use Rattle.machine.specs.Looks.{lookNumber, look}
+use Rattle.machine.specs.Looks.{lookNumber, look, Start, lineStart, startBy, lookStart}
 
 -- the record that keeps a line is one of those searched
 either : (t : Bool) (i j n : ℕ) (rest : Found) → cond t (At i) rest ≡ At j → (rest ≡ At j → j < suc i + n) → j < i + suc n
@@ -53,6 +53,19 @@ module _ (s : Shape) (r c m : List ℕ) (line : ℕ) (found : Found) (e : found 
   unfolding currentBy
   current-memory k = part-line m line ∙ (ap (currentBy c m line) (sym k) ∙ current-on)
 
+-- where they begin: z is the start of the part that the code lends
+start-parts : (z x : Start) → z .0 ≡ x .0 → z .1 ≡ x .1 → z ≡ x
+start-parts z x p q i = (p i, q i)
+
+module _ (s : Shape) (r : List ℕ) (line : ℕ) (found : Found) (e : found ≡ keeperOf 1 s r line) (x y z : Start) where
+  pub start-kept : (i : ℕ) → found ≡ At i → z .0 ≡ x .0 → z .1 ≡ x .1 + 16 * i → z ≡ startBy x y line (keeperOf 1 s r line)
+  unfolding startBy
+  start-kept i k p q = start-parts z (lineStart x i) p q ∙ ap (startBy x y line) (sym k ∙ e)
+
+  pub start-memory : found ≡ Nothing → z .0 ≡ y .0 → z .1 ≡ y .1 + 16 * line → z ≡ startBy x y line (keeperOf 1 s r line)
+  unfolding startBy
+  start-memory k p q = start-parts z (lineStart y line) p q ∙ ap (startBy x y line) (sym k ∙ e)
+
 -- the returns
 module _ (s : Shape) (slots w r c m : List ℕ) (tag : Pending) (line : ℕ) (t : Bool)
     (f : t ≡ fitsShape s (length slots) (length w) (length r) (length c) (length m)) where
@@ -64,7 +77,19 @@ module _ (s : Shape) (slots w r c m : List ℕ) (tag : Pending) (line : ℕ) (t 
   unfolding look byTable
   look-unfit h = rw (← f, h)
 
+  pub start-unfit : (x y z : Start) → t ≡ false → z .0 ≡ x .0 → z .1 ≡ x .1 → z ≡ lookStart s (board slots w r c m tag) line x y
+  unfolding lookStart byTable
+  start-unfit x y z h p q = rw (← f, h) (start-parts z x p q)
+
   module _ (h : t ≡ true) where
+    pub start-outside : (x y z : Start) → 256 * s .frames ≤ line → z .0 ≡ x .0 → z .1 ≡ x .1 → z ≡ lookStart s (board slots w r c m tag) line x y
+    unfolding lookStart byTable
+    start-outside x y z k p q = rw (← f, h, le-ltb _ _ k) (start-parts z x p q)
+
+    pub start-inside : (x y z : Start) → line < 256 * s .frames → z ≡ startBy x y line (keeperOf 1 s r line) → z ≡ lookStart s (board slots w r c m tag) line x y
+    unfolding lookStart byTable
+    start-inside x y z k e = rw (← f, h, lt-ltb _ _ k) e
+
     pub look-number-outside : 256 * s .frames ≤ line → 2 ≡ lookNumber s (board slots w r c m tag) line
     unfolding lookNumber byTable
     look-number-outside k = rw (← f, h, le-ltb _ _ k)

@@ -1,11 +1,14 @@
 // 01, "Calls": flush all, and look with its number.
 ghost use mathlib.Core.Path.{_≡_};
 ghost use Prim.Native.Nat.{_*_, _<_};
+ghost use denote.Ref.{ptr};
 ghost use Rattle.address.specs.Layout.{pageLines};
 ghost use Rattle.board.specs.declared.Pending.{Pending};
+ghost use Rattle.lines.specs.Holds.{keeperOf};
 ghost use Rattle.stores.specs.Stores.{store as storeOf, current};
 ghost use Rattle.stores.specs.Premises.{Sized};
 ghost use Rattle.machine.specs.Boards.{ways};
+ghost use Rattle.machine.specs.Looks.{startBy};
 ghost use Rattle.machine.specs.Contracts.{before, after, FlushAll, LookNumber, Look};
 use board::Answer;
 use board::Found;
@@ -79,7 +82,7 @@ fn current_part<'a>(
     line: usize,
 ) -> &'a [u8]
     requires { ⌜ Sized s (now records) (now cache) (now memory) × (line < pageLines * s .frames) ⌝ }
-    ensures { λ r. ⌜ now r ≡ current ways s (storeOf (now (records .entry)) (now (cache .entry)) (now (memory .entry))) line ⌝ }
+    ensures { λ r. ⌜ (now r ≡ current ways s (storeOf (now (records .entry)) (now (cache .entry)) (now (memory .entry))) line) × (ptr r ≡ startBy (ptr (cache .entry)) (ptr (memory .entry)) line (keeperOf ways s (now (records .entry)) line)) ⌝ }
 {
     match lines::keeper_of(s, records, line) {
         Found::At(i) => {
@@ -103,7 +106,7 @@ pub fn look<'a>(
     memory: &'a [u8],
     line: usize,
 ) -> &'a [u8]
-    ensures { λ r. ⌜ ((tag : Pending) → Look s (before slots words records cache memory tag) line (now r)) ⌝ }
+    ensures { λ r. ⌜ ((tag : Pending) → Look s (before slots words records cache memory tag) line (cache .entry) (memory .entry) r) ⌝ }
 {
     if board::fits(
         s,

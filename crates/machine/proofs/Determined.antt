@@ -22,5 +22,5 @@ no-second-outcome = record {
   load-and-map = λ s b line. whole _;
   drop-tag = λ s b. whole _;
   look-number = λ s b line n m p q. p ∙ sym q;
-  look = λ s b line x y p q. p ∙ sym q;
+  look = λ s b line cache memory x y p q. (p .0 ∙ sym (q .0), p .1 ∙ sym (q .1));
 }

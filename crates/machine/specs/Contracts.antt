@@ -5,7 +5,7 @@ use Prim.Native.Nat.{ℕ}
 use mathlib.Core.Path.{_≡_}
 use mathlib.Core.Bool.{Bool}
 use mathlib.Core.List.{List}
-use denote.Ref.{RefT, now}
+use denote.Ref.{RefT, ptr, now}
 use denote.Triple.Both.{Both}
 use Rattle.address.specs.declared.Effective.{Effective}
 use Rattle.address.specs.declared.Global.{Global}
@@ -16,7 +16,7 @@ use Rattle.stores.specs.declared.Access.{Access}
 use Rattle.machine.specs.Boards.{Board, board, outcome}
 use Rattle.machine.specs.Accesses.{userAccess, supervisorAccess}
 use Rattle.machine.specs.Calls as calls
-use Rattle.machine.specs.Looks.{lookNumber, look}
+use Rattle.machine.specs.Looks.{lookNumber, look, lookStart}
 
 -- ---- the board as a call's buffers have it
 
@@ -68,12 +68,12 @@ LoadAndMap s b line r c = outcome r c ≡ calls.loadAndMap s b line
 abbrev pub DropTag : Shape → Board → Answer → Board → Type 0
 DropTag s b r c = outcome r c ≡ calls.dropTag s b
 
--- look changes nothing: its number, and the bytes of the part that it gives
+-- look changes nothing: its number, and the part that it gives of the lent cache bytes or memory, its bytes and where it begins
 abbrev pub LookNumber : Shape → Board → ℕ → ℕ → Type 0
 LookNumber s b line n = n ≡ lookNumber s b line
 
-abbrev pub Look : Shape → Board → ℕ → List ℕ → Type 0
-Look s b line part = part ≡ look s b line
+abbrev pub Look : Shape → Board → ℕ → RefT (List ℕ) → RefT (List ℕ) → RefT (List ℕ) → Type 0
+Look s b line cache memory part = (now part ≡ look s b line) × (ptr part ≡ lookStart s b line (ptr cache) (ptr memory))
 
 -- ---- no second outcome
 
@@ -94,4 +94,5 @@ pub record NoSecondOutcome : Type 0 where
   pub load-and-map : (s : Shape) (b : Board) (line : ℕ) → Determines (LoadAndMap s b line)
   pub drop-tag : (s : Shape) (b : Board) → Determines (DropTag s b)
   pub look-number : (s : Shape) (b : Board) (line n m : ℕ) → LookNumber s b line n → LookNumber s b line m → n ≡ m
-  pub look : (s : Shape) (b : Board) (line : ℕ) (x y : List ℕ) → Look s b line x → Look s b line y → x ≡ y
+  pub look : (s : Shape) (b : Board) (line : ℕ) (cache memory x y : RefT (List ℕ)) → Look s b line cache memory x → Look s b line cache memory y
+      → (now x ≡ now y) × (ptr x ≡ ptr y)

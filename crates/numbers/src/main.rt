@@ -3,6 +3,7 @@ use address::Effective;
 use board::Pending;
 use board::Shape;
 use libc::STDOUT_FILENO;
+use slot_calls::attach;
 use stores::Access;
 use user_access::user_access;
 
@@ -54,20 +55,55 @@ fn misaligned() -> u32 {
     a.number
 }
 
-// Number 1, or 0, on a board of this many lines whose buffers have the lengths that its numbers say: what every call
-// asks first.
-fn first_number(lines: u32) -> u32 {
-    let n = lines as usize;
-    if board::fits(shape(n), 512, 1, 2 * n, 16 * n, 4096) {
-        return 0;
-    }
-    1
+// An attach to a fresh board of this many lines.
+fn attached(lines: usize, records: &[u64], cache: &[u8]) -> u32 {
+    let mut slots: [u32; 512] = [0; 512];
+    let words: [u64; 1] = [0; 1];
+    let memory: [u8; 4096] = [0; 4096];
+    let a = attach(
+        shape(lines),
+        &mut slots,
+        &words,
+        records,
+        cache,
+        &memory,
+        0,
+        0,
+        2048,
+        true,
+    );
+    a.number
+}
+
+// The same for each line count: the buffers have two words and sixteen bytes a line.
+fn three_lines() -> u32 {
+    let records: [u64; 6] = [0; 6];
+    let cache: [u8; 48] = [0; 48];
+    attached(3, &records, &cache)
+}
+
+fn no_lines() -> u32 {
+    let records: [u64; 0] = [0; 0];
+    let cache: [u8; 0] = [0; 0];
+    attached(0, &records, &cache)
+}
+
+fn most_lines() -> u32 {
+    let records: [u64; 65536] = [0; 65536];
+    let cache: [u8; 524288] = [0; 524288];
+    attached(32768, &records, &cache)
+}
+
+fn too_many_lines() -> u32 {
+    let records: [u64; 131072] = [0; 131072];
+    let cache: [u8; 1048576] = [0; 1048576];
+    attached(65536, &records, &cache)
 }
 
 fn main() {
     write_line(b"width 4 at address 2: ", misaligned());
-    write_line(b"L = 3: ", first_number(3));
-    write_line(b"L = 0: ", first_number(0));
-    write_line(b"L = 32768: ", first_number(32768));
-    write_line(b"L = 65536: ", first_number(65536));
+    write_line(b"L = 3: ", three_lines());
+    write_line(b"L = 0: ", no_lines());
+    write_line(b"L = 32768: ", most_lines());
+    write_line(b"L = 65536: ", too_many_lines());
 }
