@@ -2,19 +2,28 @@
  * library` builds both). They need memcpy and memset, keep no data of their own and allocate nothing; attach and detach take
  * some 2 KiB of stack.
  *
- * What is proved of each call, for whatever numbers and buffer lengths the caller brings: it returns, and the answer, the
- * buffers and the tag after it are those that the call's definition in crates/machine/specs gives of the buffers and the
- * tag before it. A shape or a length that does not agree is no fault of the caller's: the call answers number 1 and
- * changes nothing.
+ * What is proved of each call, for whatever numbers and buffer lengths the caller brings: on the language's own machine it
+ * ends, it takes no step outside the buffers that it is lent, and the answer, the buffers and the tag after it are those that
+ * the call's definition in crates/machine/specs gives of the buffers and the tag before it. A shape or a length that does not
+ * agree is no fault of the caller's: the call answers number 1 and changes nothing.
  *
- * What the proof assumes of the caller, and nothing checks:
+ * What the proof rests on, and nothing checks:
  *   - each pointer points to as many elements as the length after it says, readable, and writable where the prototype has
  *     no const. Lengths count elements, not bytes. Where the length is 0 the pointer may be NULL. `set` and `name` of the
  *     calls on the tag have no length: each points to one element and is never NULL;
  *   - alignment: each pointer is aligned for its elements (4 for uint32_t, 8 for uint64_t), as every C array of them is;
  *   - aliasing: what a call may write (a pointer without const) overlaps nothing else that is passed to it, and no other
  *     thread writes what a call reads, or touches what it writes, until it returns. Pointers with const may overlap. Calls
- *     on different boards may run at the same time.
+ *     on different boards may run at the same time;
+ *   - the stack has room (see above), and the compiler, the linker and the processor do as they should.
+ *
+ * What is promised of a run of calls from a fresh board (docs/PROMISES.md: the answers of a machine without a cache, and one
+ * process apart from the others) asks two things more:
+ *   - between two calls nobody else changes the buffers or the tag's two words. Reading them is fine;
+ *   - U belongs to the board. The buffers' lengths pin F, P and L: a call that brings others is answered by number 1. They
+ *     do not pin U, and a call that brings another U than the board's, up to F, is not refused. Example: with U = 0 a page is
+ *     mapped to frame 0 and its line is held; then a load with U = 1 finds the line and is answered 0, where a machine without
+ *     a cache sees no frame from 1 up with that page, and says 8. Bring the same U in every call, as OALEDVA_LEND does.
  *
  * A flag is a number: 0 is no, anything else is yes.
  */

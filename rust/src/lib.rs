@@ -133,6 +133,10 @@ impl<'a> Lent<'a> {
     /// The board that stands in these buffers, with the line name that is pending, if one is. Nothing is asked of them here:
     /// where shape and lengths don't agree, each call answers [`Refusal::Shape`] and changes nothing. For a fresh board, slots
     /// and words are 0 and no record is valid.
+    ///
+    /// The lengths pin `frames`, `processes` and `lines`, but not `uncached`, which belongs to the board: what is promised of a
+    /// run of calls holds where the same buffers are always lent with the same `uncached`, and nobody else changes them
+    /// between two calls.
     pub fn over(
         shape: Shape,
         slots: &'a mut [u32],

@@ -103,6 +103,24 @@ fn an_owned_and_a_lent_board_are_one_machine() {
 }
 
 #[test]
+fn u_belongs_to_the_board() {
+    // A line held with U = 0 is found with U = 1 too, which fits the same buffers: no frame from 1 up has its page.
+    let own = Shape { frames: 1, uncached: 0, processes: 1, lines: 1 };
+    let other = Shape { uncached: 1, ..own };
+    let (mut slots, mut words) = (vec![0; own.slots()], vec![0; own.words()]);
+    let (mut records, mut cache, mut memory) = (vec![0; own.records()], vec![0; own.cache()], vec![0; own.memory()]);
+    let mut board = Lent::over(own, &mut slots, &mut words, &mut records, &mut cache, &mut memory, None);
+    board.map(PAGE, 0, true).unwrap();
+    board.attach(0, 0, 2048, true).unwrap();
+    assert_eq!(board.load(0, 1, 0), Ok(0));
+    let mut board = Lent::over(other, &mut slots, &mut words, &mut records, &mut cache, &mut memory, None);
+    assert_eq!((board.load(0, 1, 0), board.hit()), (Ok(0), true));
+    // Flushed, it is not found: what a machine without a cache says at once.
+    board.flush_all().unwrap();
+    assert_eq!(board.load(0, 1, 0), Err(Refusal::NotMapped));
+}
+
+#[test]
 fn a_supervisor_reaches_what_users_cannot() {
     let mut board = mapped();
     board.protect(PAGE, false).unwrap();
