@@ -52,8 +52,7 @@ prefixOf g = g .0 / prefixBytes
 -- prefix 0: uncached physical; prefix 1: cached physical; global / 2^34 = 1023: page table region; all else is ordinary
 unfoldable pub regionOf : Global → Region
 regionOf g =
-    cond (eqb (prefixOf g) 0) Uncached
-    (cond (eqb (prefixOf g) 1) Cached
+    cond (eqb (prefixOf g) 0) Uncached (cond (eqb (prefixOf g) 1) Cached
     (cond (eqb (g .0 / tableBytes) tableIndex) PageTable Ordinary))
 
 -- in prefixes 0 and 1 the physical address is global mod 2^32

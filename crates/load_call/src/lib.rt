@@ -17,7 +17,7 @@ use board::Shape;
 use tag_calls::Tagged;
 
 // What load-and-map goes on with: the page's permission, if no number refuses it.
-pub enum Load {
+enum Load {
     Refuse(u32),
     Fill(bool),
 }

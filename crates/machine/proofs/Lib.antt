@@ -4,3 +4,4 @@ pub mod NumbersToCheck
 pub mod Determined
 pub mod Alignments
 pub mod Prefixes
+pub mod Rising

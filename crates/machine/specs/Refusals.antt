@@ -26,7 +26,7 @@ pub record Row : Type 0 where
 abbrev pub row : ℕ → Bool → Row
 row n t = record { number = n; applies = t }
 
--- the first row that applies refuses; if none does, the call is done. Tables stand in rising order, so the first is the lowest.
+-- the first row that applies refuses; if none does, the call is done. Tables rise (`Rising.antt`), so the first is the lowest.
 unfoldable pub byTable : {A : Type 0} → (ℕ → A) → List Row → A → A
 byTable refuse [] done = done
 byTable refuse (r ∷ rows) done = cond (r .applies) (refuse (r .number)) (byTable refuse rows done)

@@ -78,7 +78,7 @@ pub fn mapped_to(s: Shape, words: &[u64], page: u64) -> Found
 }
 
 // A frame from U up whose word is 0.
-pub fn free_frame(s: Shape, words: &[u64], frame: usize) -> bool
+fn free_frame(s: Shape, words: &[u64], frame: usize) -> bool
     requires { ⌜ length (now words) ≡ s .frames ⌝ }
     ensures { λ r. ⌜ r ≡ freeFrame s (now (words .entry)) frame ⌝ }
 {

@@ -25,17 +25,14 @@ use Rattle.machine.specs.Boards.{Board, Outcome, refused}
 use Rattle.machine.specs.Refusals.{Row, byTable, outside, wordInUse, isOrdinary, isCached}
 use Rattle.machine.specs.Accesses.{Reached, accessedBy, accessed, performedOn, wayTo, userGlobal, userTable, userAccess, frameUnder, supervisorTable, memoryAccess, supervisorDone, supervisorAccess}
 use Rattle.machine.specs.Calls as board
+use Rattle.machine.specs.Rising.{rising, Rises}
 use Rattle.machine.proofs.Tables.{Passed, passed-more, table-both}
+use Rattle.machine.proofs.Rising.{tables-rise}
 use Rattle.machine.proofs.Prefixes.{region-cached, prefix-reached}
 use Rattle.promises.specs.Runs.{Supervisor, access, attach, detach, map, unmap, protect, flushAll, tag, loadAndMap, dropTag, Call, user, supervisor, supervise, step}
 use Rattle.promises.specs.Demand1.{supervisorRows, rowsOf, appliesIn, Lowest, Demand1, LookRefusals}
 
 -- ---- rising tables
-
--- the numbers of a table's rows rise, from `from` up
-unfoldable rising : ℕ → List Row → Bool
-rising from [] = true
-rising from (r ∷ rows) = leb from (r .number) && rising (suc (r .number)) rows
 
 row-number : (a : Bool) (m n : ℕ) → (a && eqb m n) ≡ true → m ≡ n
 row-number a m n e = eqb-true m n (and-right a (eqb m n) e)
@@ -125,7 +122,7 @@ module _ (b : Board) (rows : List Row) (d : Outcome) (zero : Passed rows → d .
       }
 
   -- a rising table whose numbers start at 1, and what is done has number 0
-  told : rising 1 rows ≡ true → Told b rows (byTable (refused b) rows d)
+  told : Rises rows → Told b rows (byTable (refused b) rows d)
   told h = tabled-told _ (tabled (refused b) d 1 rows h)
 
 -- ---- what is done has number 0
@@ -163,27 +160,29 @@ module _ (s : Shape) (words : List ℕ) (g : Global) (a : Access) (b : Store) wh
 
 module _ (s : Shape) (b : Board) where
   told-user : (process : ℕ) (a : Access) (e : Effective) → Told b (userTable s b process a e) (userAccess s b process a e)
-  unfolding userAccess userTable rising
+  unfolding userAccess userTable
   told-user process a e =
-      told b (userTable s b process a e) _ (λ q. accessed-zero s (b .words) (userGlobal (b .slots) process e) a (b .store) (q 7)) refl
+      told b (userTable s b process a e) _ (λ q. accessed-zero s (b .words) (userGlobal (b .slots) process e) a (b .store) (q 7))
+      (tables-rise .user-access s b process a e)
 
   told-access : (a : Access) (g : Global) → Told b (supervisorTable s b a g) (supervisorAccess s b a g)
-  unfolding supervisorAccess supervisorTable rising
+  unfolding supervisorAccess supervisorTable
   told-access a g =
-      told b (supervisorTable s b a g) _ (λ q. supervisor-zero s (b .words) g a (b .store) (regionOf g) refl (q 4) (q 5) (q 6)) refl
+      told b (supervisorTable s b a g) _ (λ q. supervisor-zero s (b .words) g a (b .store) (regionOf g) refl (q 4) (q 5) (q 6))
+      (tables-rise .supervisor-access s b a g)
 
   told-supervisor : (c : Supervisor) → Told b (supervisorRows s b c) (supervise s b c)
-  unfolding supervisorRows supervise rising board.attach board.detach board.mapPage board.unmap board.protect board.flushAll board.tag board.loadAndMap board.dropTag
+  unfolding supervisorRows supervise board.attach board.detach board.mapPage board.unmap board.protect board.flushAll board.tag board.loadAndMap board.dropTag
   told-supervisor (access a g) = told-access a g
-  told-supervisor (attach process slot segment write) = told b (supervisorRows s b (attach process slot segment write)) _ (λ q. refl) refl
-  told-supervisor (detach process slot) = told b (supervisorRows s b (detach process slot)) _ (λ q. refl) refl
-  told-supervisor (map page frame write) = told b (supervisorRows s b (map page frame write)) _ (λ q. refl) refl
-  told-supervisor (unmap page) = told b (supervisorRows s b (unmap page)) _ (λ q. refl) refl
-  told-supervisor (protect page write) = told b (supervisorRows s b (protect page write)) _ (λ q. refl) refl
-  told-supervisor flushAll = told b (supervisorRows s b flushAll) _ (λ q. refl) refl
-  told-supervisor (tag name) = told b (supervisorRows s b (tag name)) _ (λ q. refl) refl
-  told-supervisor (loadAndMap line) = told b (supervisorRows s b (loadAndMap line)) _ (λ q. refl) refl
-  told-supervisor dropTag = told b (supervisorRows s b dropTag) _ (λ q. refl) refl
+  told-supervisor (attach process slot segment write) = told b (supervisorRows s b (attach process slot segment write)) _ (λ q. refl) (tables-rise .attach s b process slot segment)
+  told-supervisor (detach process slot) = told b (supervisorRows s b (detach process slot)) _ (λ q. refl) (tables-rise .detach s b process slot)
+  told-supervisor (map page frame write) = told b (supervisorRows s b (map page frame write)) _ (λ q. refl) (tables-rise .map s b page frame)
+  told-supervisor (unmap page) = told b (supervisorRows s b (unmap page)) _ (λ q. refl) (tables-rise .page s b page)
+  told-supervisor (protect page write) = told b (supervisorRows s b (protect page write)) _ (λ q. refl) (tables-rise .page s b page)
+  told-supervisor flushAll = told b (supervisorRows s b flushAll) _ (λ q. refl) (tables-rise .flush-all s b)
+  told-supervisor (tag name) = told b (supervisorRows s b (tag name)) _ (λ q. refl) (tables-rise .tag s b name)
+  told-supervisor (loadAndMap line) = told b (supervisorRows s b (loadAndMap line)) _ (λ q. refl) (tables-rise .load-and-map s b line)
+  told-supervisor dropTag = told b (supervisorRows s b dropTag) _ (λ q. refl) (tables-rise .drop-tag s b)
 
   told-call : (k : Call) → Told b (rowsOf s b k) (step s b k)
   unfolding rowsOf step
@@ -191,10 +190,10 @@ module _ (s : Shape) (b : Board) where
   told-call (supervisor c) = told-supervisor c
 
   told-look : (line : ℕ) → LookRefusals s b line
-  unfolding lookNumber look rising
+  unfolding lookNumber look
   told-look line =
       record {
-        number-is-lowest = number-lowest (lookTable s b line) _ (tabled (λ n. n) 0 1 (lookTable s b line) refl);
+        number-is-lowest = number-lowest (lookTable s b line) _ (tabled (λ n. n) 0 1 (lookTable s b line) (tables-rise .look s b line));
         nothing-given = table-both (λ n l. (n ≡ 0 → ⊥) → l ≡ []) (λ n. n) (λ n. []) (λ n h. refl) (lookTable s b line) 0 _ (λ p h. absurd (h refl));
       }
 

@@ -15,7 +15,7 @@ use stores::Access;
 
 // What is decided of a supervisor access before a line is touched: a refusal's number, the line's address, or the address in
 // memory.
-pub enum Plan {
+enum Plan {
     Stop(u32),
     Line(Global),
     Memory(Physical),

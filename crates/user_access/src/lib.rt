@@ -16,7 +16,7 @@ use board::numbered;
 use stores::Access;
 
 // What is decided of a user access before a line is touched: a refusal's number, or the global address.
-pub enum Check {
+enum Check {
     Refuse(u32),
     Go(Global),
 }
