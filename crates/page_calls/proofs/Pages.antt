@@ -74,7 +74,7 @@ module _ (s : Shape) (page frame : ℕ) (w r c m r₁ m₁ : List ℕ) where
 -- ---- the returns
 
 -- a frame or a stop, carried to a call
-byFrame : {A : Type 0} → (ℕ → A) → (ℕ → A) → Frame → A
+unfoldable pub byFrame : {A : Type 0} → (ℕ → A) → (ℕ → A) → Frame → A
 byFrame refuse go (Stop n) = refuse n
 byFrame refuse go (On f) = go f
 

@@ -16,7 +16,7 @@ pub enum Frame {
 }
 
 // Numbers 2 and 8 of unmap and protect, or the page's frame.
-fn page_frame(s: Shape, words: &[u64], page: u64) -> Frame
+pub fn page_frame(s: Shape, words: &[u64], page: u64) -> Frame
     ensures { λ r. ⌜ r ≡ pageFrame s (now (words .entry)) page ⌝ }
 {
     if address::ordinary_page(page) {

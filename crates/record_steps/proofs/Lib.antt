@@ -1,4 +1,5 @@
 -- The laws of this crate that proofs cite.
-pub mod Fits
+pub mod Decided
+pub mod Determined
 pub mod Single
 pub mod Link

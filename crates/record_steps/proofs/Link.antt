@@ -1,12 +1,12 @@
 -- The record words, read as lines, become what the list of lines becomes: record by record, and then by the sweep.
 use Prim.Native.Nat.{ℕ, zero, suc, _+_, _*_, _≤_, _<_}
-use mathlib.Core.Path.{_≡_, refl, _∙_, ap}
-use mathlib.Core.Bool.{Bool, true, false, _&&_, cond}
-use mathlib.Core.List.{List, _∷_}
+use mathlib.Core.Path.{_≡_, refl, sym, _∙_, ap}
+use mathlib.Core.Bool.{Bool, true, false, not, _&&_, cond}
+use mathlib.Core.List.{List, [], _∷_}
 use native.Mathlib.Omega.{arith}
 use lib.ListN.{length}
-use borrow.Author.Tests.{eq-eqb}
-use Rattle.board.specs.Shapes.{limitsHold}
+use borrow.Author.Tests.{not-false}
+use Rattle.board.specs.Shapes.{recordWords}
 use Rattle.board.specs.declared.Shape.{Shape}
 use Rattle.line_bytes.specs.Bytes.{lineOf, withLine}
 use Rattle.lines.specs.Records.{lineAt, putLine, noLine, permittedLine}
@@ -17,8 +17,13 @@ use Rattle.lines.specs.declared.Line.{Line}
 use Rattle.visits.specs.declared.Visit.{Visit}
 use Rattle.visits.specs.declared.Visit.the-variants.{Map, Unmap, Protect, Flush}
 use Rattle.lines.proofs.Records.{length-put, line-put-same, line-put-other}
-use Rattle.record_steps.specs.Lent.{treatedLine, lineVisited, linesVisited, lineFlushed, flushedMemory, linesFit}
-use Rattle.record_steps.specs.Link.{linesFrom, linesAt, Link}
+use Rattle.board.proofs.Shapes.{shaped}
+use Rattle.machine.specs.Boards.{Board, fitsBoard, Outcome, refused}
+use Rattle.machine.specs.Refusals.{Row, row, row1, byTable}
+use Rattle.machine.specs.Calls.{pageRows, protected, protect, flushAll}
+use Rattle.machine.proofs.Tables.{table-map, table-both}
+use Rattle.record_steps.specs.Lent.{treatedLine, lineVisited, linesVisited, lineFlushed, flushedMemory, LentOutcome, lentRefused, lentRow1, protectLent, flushLent}
+use Rattle.record_steps.specs.Link.{linesFrom, linesAt, lentOf, readLent, Link}
 
 module _ (s : Shape) where
   -- ---- one record
@@ -147,21 +152,64 @@ module _ (s : Shape) where
   sweep-protect page write zero i x = refl
   sweep-protect page write (suc n) i x = sweep-protect page write n (suc i) (visited 1 s (Protect page write) i x) ∙ protect-step page write i x
 
+  sweep-cache : (v : Visit) (n i : ℕ) (x : Store) → sweep (visited 1 s v) n i x .cache ≡ x .cache
+  unfolding sweep
+  sweep-cache v zero i x = refl
+  sweep-cache v (suc n) i x = sweep-cache v n (suc i) (visited 1 s v i x) ∙ visited-cache v i x
+
 pub length-lines : (records : List ℕ) (i n : ℕ) → length (linesFrom records i n) ≡ n
 unfolding linesFrom
 length-lines records i zero = refl
 length-lines records i (suc n) = ap suc (length-lines records (suc i) n)
 
-fits-lines : (s : Shape) (records : List ℕ) → limitsHold s ≡ true → linesFit s (length (linesAt records (s .lines))) ≡ true
-unfolding linesFit
-fits-lines s records h = rw (h, eq-eqb (length (linesAt records (s .lines))) (s .lines) (length-lines records 0 (s .lines)))
+-- ---- the calls: two tables of the same rows, of which the first asks that the board fits
+
+module _ (s : Shape) (b : Board) (n : ℕ) (h : length (b .store .records) ≡ recordWords * n) where
+  records-are : recordWords * length (linesAt (b .store .records) n) ≡ length (b .store .records)
+  records-are = omega (arith, h, length-lines (b .store .records) 0 n)
+
+  -- an accepted board has L records
+  lines-are : fitsBoard s b ≡ true → n ≡ s .lines
+  lines-are f = omega (arith, h, shaped s (length (b .slots)) (length (b .words)) (length (b .store .records)) (length (b .store .cache)) (length (b .store .memory)) true (sym f) refl .records-are)
+
+  -- what stands where no row applies must be the same on an accepted board only
+  by-rows : (rows : List Row) (x : LentOutcome) (y : Outcome) → (fitsBoard s b ≡ true → x ≡ readLent n y)
+      → byTable (lentRefused (lentOf n b)) (lentRow1 s (length (b .slots)) (length (b .words)) (length (linesAt (b .store .records) n)) (length (b .store .cache)) (length (b .store .memory)) ∷ rows) x
+      ≡ readLent n (byTable (refused b) (row1 s b ∷ rows) y)
+  by-rows rows x y same =
+      rw records-are (go (fitsBoard s b) same) ∙ sym (table-map (readLent n) (refused b) (row1 s b ∷ rows) y)
+    where
+      go : (t : Bool) → (t ≡ true → x ≡ readLent n y) → byTable (lentRefused (lentOf n b)) (row 1 (not t) ∷ rows) x ≡ byTable (lentRefused (lentOf n b)) (row 1 (not t) ∷ rows) (readLent n y)
+      go t e = table-both _≡_ (lentRefused (lentOf n b)) (lentRefused (lentOf n b)) (λ k. refl) (row 1 (not t) ∷ rows) x (readLent n y) (λ q. e (not-false t (q 0)))
+
+  module _ (f : fitsBoard s b ≡ true) where
+    -- the lines that all records say, after a visit
+    visited-lines : (v : Visit) → linesVisited s v 0 (linesAt (b .store .records) n) ≡ linesAt (visitedAll 1 s v (b .store) .records) n
+    unfolding visitedAll
+    visited-lines v = rw (lines-are f) (sym (sweep-lines s v (s .lines) 0 (b .store) (omega (arith, h, lines-are f))))
+
+    flushed-memory : flushedMemory s 0 (linesAt (b .store .records) n) (b .store .cache) (b .store .memory) ≡ visitedAll 1 s Flush (b .store) .memory
+    unfolding visitedAll
+    flushed-memory = rw (lines-are f) (sym (sweep-flush s (s .lines) 0 (b .store)))
+
+    kept-cache : (v : Visit) → visitedAll 1 s v (b .store) .cache ≡ b .store .cache
+    unfolding visitedAll
+    kept-cache v = sweep-cache s v (s .lines) 0 (b .store)
+
+    kept-memory : (page : ℕ) (write : Bool) → visitedAll 1 s (Protect page write) (b .store) .memory ≡ b .store .memory
+    unfolding visitedAll
+    kept-memory page write = sweep-protect s page write (s .lines) 0 (b .store)
+
+  protect-link : (page : ℕ) (write : Bool) → protectLent s (lentOf n b) page write ≡ readLent n (protect s b page write)
+  unfolding protectLent protect protected
+  protect-link page write = by-rows (pageRows s (b .words) page) _ _ (λ f. rw (visited-lines f (Protect page write), kept-cache f (Protect page write), kept-memory f page write))
+
+  flush-link : flushLent s (lentOf n b) ≡ readLent n (flushAll s b)
+  unfolding flushLent flushAll
+  flush-link = by-rows [] _ _ (λ f. rw (visited-lines f Flush, flushed-memory f, kept-cache f Flush))
 
 pub link : Link
-unfolding visitedAll
-link s x h = record {
-  protect-lines = λ page write. sweep-lines s (Protect page write) (s .lines) 0 x (omega (arith, h));
-  protect-memory = λ page write. sweep-protect s page write (s .lines) 0 x;
-  flush-lines = sweep-lines s Flush (s .lines) 0 x (omega (arith, h));
-  flush-memory = sweep-flush s (s .lines) 0 x;
-  accepted = fits-lines s (x .records);
+link = record {
+  protect = λ s b n page write h. protect-link s b n h page write;
+  flush-all = λ s b n h. flush-link s b n h;
 }

@@ -1,15 +1,17 @@
--- 01, "The board": each line has a record. Here the records are a list of them, line 0 first, and protect and flush all are said on that list.
--- What a line holds, which lines a visit is for and what the bytes become are the board's own definitions, with one line in a set.
+-- 01, "The board": each line has a record. Here the records are a list of them, line 0 first, and protect and flush all are said on a board with that list.
+-- What a line holds, which lines a visit is for, what the bytes become and what the tables ask are the board's own definitions, with one line in a set.
 use Prim.Native.Nat.{ℕ, suc, _*_, _≤_, _<_}
 use mathlib.Core.Path.{_≡_}
-use mathlib.Core.Bool.{Bool, _&&_, cond}
+use mathlib.Core.Bool.{Bool, not, _&&_, cond}
 use mathlib.Core.List.{List, [], _∷_}
 use lib.Count.{ones}
-use lib.Dec.{eqb}
-use lib.ListN.{length}
+use lib.ListN.{length, set}
 use Rattle.address.specs.Layout.{lineBytes, pageBytes}
-use Rattle.board.specs.Shapes.{limitsHold, maxFrames}
+use Rattle.board.specs.Answers.{answer}
+use Rattle.board.specs.Shapes.{fitsShape, maxFrames, recordWords}
+use Rattle.board.specs.declared.Answer.{Answer}
 use Rattle.board.specs.declared.Shape.{Shape}
+use Rattle.pages.specs.Pages.{frameWord, mappedTo}
 use Rattle.line_bytes.specs.Bytes.{lineOf, withLine}
 use Rattle.lines.specs.Records.{noLine, permittedLine}
 use Rattle.lines.specs.Holds.{holdsLine}
@@ -17,6 +19,8 @@ use Rattle.visits.specs.Visits.{selects}
 use Rattle.lines.specs.declared.Line.{Line}
 use Rattle.visits.specs.declared.Visit.{Visit}
 use Rattle.visits.specs.declared.Visit.the-variants.{Map, Unmap, Protect, Flush}
+use Rattle.machine.specs.Refusals.{Row, row, byTable, lowest}
+use Rattle.machine.specs.Calls.{foundFrame, pageRows}
 
 -- ---- what a visit makes of the lines
 
@@ -45,37 +49,92 @@ unfoldable pub flushedMemory : Shape → ℕ → List Line → List ℕ → List
 flushedMemory s i [] cache memory = memory
 flushedMemory s i (l ∷ ls) cache memory = flushedMemory s (suc i) ls cache (lineFlushed s i l cache memory)
 
--- ---- refusals
+-- ---- the board with a list of lines in place of record words, and what a call gives. There is no tag: neither call asks for it or changes it
 
--- number 1 does not apply: the numbers are within the board's limits, and there are L lines
-unfoldable pub linesFit : Shape → ℕ → Bool
-linesFit s lines = limitsHold s && eqb lines (s .lines)
+pub record LentBoard : Type 0 where
+  pub slots : List ℕ
+  pub words : List ℕ
+  pub lines : List Line
+  pub cache : List ℕ
+  pub memory : List ℕ
 
--- and the cache has L lines of 16 bytes, memory F frames of 4096
-unfoldable pub allFit : Shape → ℕ → ℕ → ℕ → Bool
-allFit s lines cache memory = linesFit s lines && (eqb cache (lineBytes * s .lines) && eqb memory (pageBytes * s .frames))
+abbrev pub lentBoard : List ℕ → List ℕ → List Line → List ℕ → List ℕ → LentBoard
+lentBoard slots words lines cache memory = record { slots = slots; words = words; lines = lines; cache = cache; memory = memory }
 
--- the number of a call: 0, or 1 if the lengths or limits are wrong
-abbrev pub numberOf : Bool → ℕ
-numberOf fit = cond fit 0 1
+pub record LentOutcome : Type 0 where
+  pub answer : Answer
+  pub after : LentBoard
 
--- ---- the two calls: a refusal changes nothing
+abbrev pub lentOutcome : Answer → LentBoard → LentOutcome
+lentOutcome a b = record { answer = a; after = b }
 
-abbrev pub protectedLines : Shape → ℕ → Bool → List Line → List Line
-protectedLines s page write ls = cond (linesFit s (length ls)) (linesVisited s (Protect page write) 0 ls) ls
+-- a refusal: value 0, mark 0, nothing changed
+abbrev pub lentRefused : LentBoard → ℕ → LentOutcome
+lentRefused b n = lentOutcome (answer n 0 0) b
 
--- by the lengths of the cache and of memory
-abbrev pub flushedLines : Shape → List Line → ℕ → ℕ → List Line
-flushedLines s ls cache memory = cond (allFit s (length ls) cache memory) (linesVisited s Flush 0 ls) ls
+-- done, by a call that is no access
+abbrev pub lentDone : LentBoard → LentOutcome
+lentDone b = lentOutcome (answer 0 0 0) b
 
-abbrev pub flushedBytes : Shape → List Line → List ℕ → List ℕ → List ℕ
-flushedBytes s ls cache memory = cond (allFit s (length ls) (length cache) (length memory)) (flushedMemory s 0 ls cache memory) memory
+-- ---- the tables, by the lengths of the buffers
 
--- ---- what the code inside counts and asks; no call's definition needs these
+-- 1: buffer lengths or F, U, P, L disagree or are out of limits; a line counts for the words of its record
+abbrev pub lentRow1 : Shape → ℕ → ℕ → ℕ → ℕ → ℕ → Row
+lentRow1 s slots words lines cache memory = row 1 (not (fitsShape s slots words (recordWords * lines) cache memory))
+
+abbrev pub lentPageTable : Shape → ℕ → List ℕ → ℕ → ℕ → ℕ → ℕ → List Row
+lentPageTable s slots words lines cache memory page = lentRow1 s slots (length words) lines cache memory ∷ pageRows s words page
+
+abbrev pub lentFlushTable : Shape → ℕ → ℕ → ℕ → ℕ → ℕ → List Row
+lentFlushTable s slots words lines cache memory = lentRow1 s slots words lines cache memory ∷ []
+
+-- ---- protect (page, write bit): changes the word and every held line named in the page
+
+-- the words, with that of the page's frame changed
+abbrev pub protectedWords : Shape → List ℕ → ℕ → Bool → List ℕ
+protectedWords s words page write = set words (foundFrame (mappedTo s words page)) (frameWord page write)
+
+unfoldable pub protectLent : Shape → LentBoard → ℕ → Bool → LentOutcome
+protectLent s b page write =
+    byTable (lentRefused b) (lentPageTable s (length (b .slots)) (b .words) (length (b .lines)) (length (b .cache)) (length (b .memory)) page)
+    (lentDone (lentBoard (b .slots) (protectedWords s (b .words) page write) (linesVisited s (Protect page write) 0 (b .lines)) (b .cache) (b .memory)))
+
+-- ---- flush all: writes back every changed line, by rising place, and drops all
+
+unfoldable pub flushLent : Shape → LentBoard → LentOutcome
+flushLent s b =
+    byTable (lentRefused b) (lentFlushTable s (length (b .slots)) (length (b .words)) (length (b .lines)) (length (b .cache)) (length (b .memory)))
+    (lentDone (lentBoard (b .slots) (b .words) (linesVisited s Flush 0 (b .lines)) (b .cache) (flushedMemory s 0 (b .lines) (b .cache) (b .memory))))
+
+-- ---- what it is to meet the contract of a call: with this answer, and this board after it
+
+abbrev pub ProtectMet : Shape → LentBoard → ℕ → Bool → Answer → LentBoard → Type 0
+ProtectMet s b page write r after = lentOutcome r after ≡ protectLent s b page write
+
+abbrev pub FlushMet : Shape → LentBoard → Answer → LentBoard → Type 0
+FlushMet s b r after = lentOutcome r after ≡ flushLent s b
+
+-- ---- what the code inside decides and asks; no call's definition needs these
+
+-- an answer and the frame words: what protect has before it walks the lines
+pub record Worded : Type 0 where
+  pub answer : Answer
+  pub words : List ℕ
+
+abbrev pub worded : Answer → List ℕ → Worded
+worded a words = record { answer = a; words = words }
+
+unfoldable pub wordChanged : Shape → ℕ → List ℕ → ℕ → ℕ → ℕ → ℕ → Bool → Worded
+wordChanged s slots words lines cache memory page write =
+    byTable (λ n. worded (answer n 0 0) words) (lentPageTable s slots words lines cache memory page) (worded (answer 0 0 0) (protectedWords s words page write))
+
+-- flush all's answer
+abbrev pub flushAnswer : Shape → ℕ → ℕ → ℕ → ℕ → ℕ → Answer
+flushAnswer s slots words lines cache memory = answer (lowest (lentFlushTable s slots words lines cache memory)) 0 0
 
 -- the lines to walk: all or none
 abbrev pub turnsWhen : Bool → ℕ → ℕ
-turnsWhen fit lines = cond fit lines 0
+turnsWhen done lines = cond done lines 0
 
 -- line i stands on an accepted board, and its cache and memory have their lengths
 pub record Placed (s : Shape) (i cache memory : ℕ) : Type 0 where

@@ -1,17 +1,17 @@
--- The list of lines and the board's record words are the same machine: the words, read by the board's own `lineAt`, become what the list becomes.
+-- The board with a list of lines and the board with record words are the same machine: read by the board's own `lineAt`, what protect and flush all
+-- make of a board is what they make of its lines. The board may fit its shape or not.
 use Prim.Native.Nat.{ℕ, zero, suc, _*_}
 use mathlib.Core.Path.{_≡_}
-use mathlib.Core.Bool.{Bool, true}
+use mathlib.Core.Bool.{Bool}
 use mathlib.Core.List.{List, [], _∷_}
 use lib.ListN.{length}
-use Rattle.board.specs.Shapes.{limitsHold, recordWords}
+use Rattle.board.specs.Shapes.{recordWords}
 use Rattle.board.specs.declared.Shape.{Shape}
 use Rattle.lines.specs.Records.{lineAt}
-use Rattle.stores.specs.Stores.{Store}
-use Rattle.visits.specs.Visits.{visitedAll}
 use Rattle.lines.specs.declared.Line.{Line}
-use Rattle.visits.specs.declared.Visit.the-variants.{Protect, Flush}
-use Rattle.record_steps.specs.Lent.{linesFit, linesVisited, flushedMemory}
+use Rattle.machine.specs.Boards.{Board, Outcome}
+use Rattle.machine.specs.Calls.{protect, flushAll}
+use Rattle.record_steps.specs.Lent.{LentBoard, lentBoard, LentOutcome, lentOutcome, protectLent, flushLent}
 
 -- the n lines that record words say, from line i on
 unfoldable pub linesFrom : List ℕ → ℕ → ℕ → List Line
@@ -22,14 +22,15 @@ linesFrom records i (suc n) = lineAt records i ∷ linesFrom records (suc i) n
 abbrev pub linesAt : List ℕ → ℕ → List Line
 linesAt records n = linesFrom records 0 n
 
--- what the board's visits do to its record words and memory is what they do to the lines that the words say
-pub record Linked (s : Shape) (x : Store) : Type 0 where
-  pub protect-lines : (page : ℕ) (write : Bool) → linesAt (visitedAll 1 s (Protect page write) x .records) (s .lines) ≡ linesVisited s (Protect page write) 0 (linesAt (x .records) (s .lines))
-  pub protect-memory : (page : ℕ) (write : Bool) → visitedAll 1 s (Protect page write) x .memory ≡ x .memory
-  pub flush-lines : linesAt (visitedAll 1 s Flush x .records) (s .lines) ≡ linesVisited s Flush 0 (linesAt (x .records) (s .lines))
-  pub flush-memory : visitedAll 1 s Flush x .memory ≡ flushedMemory s 0 (linesAt (x .records) (s .lines)) (x .cache) (x .memory)
-  -- the check of the lines says no more than the limits
-  pub accepted : limitsHold s ≡ true → linesFit s (length (linesAt (x .records) (s .lines))) ≡ true
+-- a board with its first n records read as lines, and what a call gives, read likewise
+abbrev pub lentOf : ℕ → Board → LentBoard
+lentOf n b = lentBoard (b .slots) (b .words) (linesAt (b .store .records) n) (b .store .cache) (b .store .memory)
 
-abbrev pub Link : Type 0
-Link = (s : Shape) (x : Store) → length (x .records) ≡ recordWords * s .lines → Linked s x
+abbrev pub readLent : ℕ → Outcome → LentOutcome
+readLent n o = lentOutcome (o .answer) (lentOf n (o .after))
+
+-- each call on the lines of a board of n records gives what the board's own call gives: answer, slots, words, lines, cache and memory
+pub record Link : Type 0 where
+  pub protect : (s : Shape) (b : Board) (n : ℕ) (page : ℕ) (write : Bool) → length (b .store .records) ≡ recordWords * n
+      → protectLent s (lentOf n b) page write ≡ readLent n (protect s b page write)
+  pub flush-all : (s : Shape) (b : Board) (n : ℕ) → length (b .store .records) ≡ recordWords * n → flushLent s (lentOf n b) ≡ readLent n (flushAll s b)

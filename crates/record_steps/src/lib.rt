@@ -1,50 +1,71 @@
-// Protect and flush all on one line record by value, and how many lines a walk of them takes.
+// Protect and flush all over line records: what they decide before the lines, and one line record by value.
 ghost use mathlib.Core.Path.{_≡_};
-ghost use mathlib.Core.Bool.{not};
-ghost use Prim.Native.Nat.{_≤_};
+ghost use Prim.Native.Nat.{_*_, _≤_, _<_, _^_};
 ghost use lib.Count.{ones};
 ghost use lib.Dec.{eqb};
 ghost use lib.ListN.{length};
-ghost use Rattle.board.specs.Shapes.{maxFrames};
+ghost use Rattle.board.specs.Shapes.{maxFrames, recordWords};
 ghost use Rattle.visits.specs.declared.Visit.the-variants.{Protect, Flush};
-ghost use Rattle.record_steps.specs.Lent.{Placed, linesFit, allFit, turnsWhen, numberOf, lineVisited, lineFlushed};
+ghost use Rattle.record_steps.specs.Lent.{Placed, worded, wordChanged, flushAnswer, turnsWhen, lineVisited, lineFlushed};
 use address::PAGE_NAMES;
-use board::LINE_BYTES;
-use board::PAGE_BYTES;
+use board::Answer;
+use board::RECORD_WORDS;
 use board::Shape;
+use board::numbered;
 use lines::Line;
+use page_calls::Frame;
 
-// How many lines protect walks: all, or none if number 1 applies.
-pub fn protect_turns(s: Shape, lines: usize) -> usize
-    ensures { λ r. ⌜ r ≡ turnsWhen (linesFit s lines) lines ⌝ }
+// What protect does before it walks the lines: numbers 1, 2 and 8, by the lengths of the other buffers, or the frame word.
+pub fn protect_word(
+    s: Shape,
+    slots: usize,
+    words: &mut [u64],
+    lines: usize,
+    cache: usize,
+    memory: usize,
+    page: u64,
+    write: bool,
+) -> Answer
+    requires { ⌜ recordWords * lines < 2 ^ 64 ⌝ }
+    ensures { λ r. ⌜ worded r (now (words .exit)) ≡ wordChanged s slots (now (words .entry)) lines cache memory page write ⌝ }
 {
-    if board::limits_hold(s) {
-        if lines == s.lines {
-            return lines;
+    if board::fits(s, slots, words.len(), RECORD_WORDS * lines, cache, memory) {
+        match page_calls::page_frame(s, words, page) {
+            Frame::Stop(n) => numbered(n),
+            Frame::On(f) => {
+                words[f] = pages::frame_word(page, write);
+                numbered(0)
+            }
         }
+    } else {
+        numbered(1)
     }
-    0
 }
 
-// How many lines flush all walks: all, or none if number 1 applies.
-pub fn flush_turns(s: Shape, lines: usize, cache: usize, memory: usize) -> usize
-    ensures { λ r. ⌜ r ≡ turnsWhen (allFit s lines cache memory) lines ⌝ }
+// Number 1 of flush all, by the lengths of the buffers.
+pub fn flush_number(
+    s: Shape,
+    slots: usize,
+    words: usize,
+    lines: usize,
+    cache: usize,
+    memory: usize,
+) -> Answer
+    requires { ⌜ recordWords * lines < 2 ^ 64 ⌝ }
+    ensures { λ r. ⌜ r ≡ flushAnswer s slots words lines cache memory ⌝ }
 {
-    let n = protect_turns(s, lines);
-    if n != 0 {
-        if (cache == LINE_BYTES * s.lines) & (memory == PAGE_BYTES * s.frames) {
-            return n;
-        }
+    if board::fits(s, slots, words, RECORD_WORDS * lines, cache, memory) {
+        return numbered(0);
     }
-    0
+    numbered(1)
 }
 
-// The number of a walk of so many lines: an accepted board has a line, so no turns means refused.
-pub fn number_of(turns: usize) -> u32
-    ensures { λ r. ⌜ r ≡ numberOf (not (eqb turns 0)) ⌝ }
+// How many lines a call with this answer walks: all, or none if it is refused.
+pub fn turns(a: Answer, lines: usize) -> usize
+    ensures { λ r. ⌜ r ≡ turnsWhen (eqb (a .number) 0) lines ⌝ }
 {
-    if turns == 0 {
-        return 1;
+    if a.number == 0 {
+        return lines;
     }
     0
 }

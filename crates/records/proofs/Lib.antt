@@ -2,4 +2,3 @@
 pub mod Upto
 pub mod Values
 pub mod Again
-pub mod Arrays

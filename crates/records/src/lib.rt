@@ -1,53 +1,69 @@
-// Line records as a lent slice of structs: protect and flush all walk it, and each line goes by
-// value through a function that says what happens to one line.
-ghost use mathlib.Core.Path.{_≡_};
-ghost use lib.ListN.{length};
-ghost use Rattle.record_steps.specs.Lent.{linesFit, allFit, numberOf, protectedLines, flushedLines, flushedBytes};
+// Line records as a lent slice of structs: protect and flush all decide by covered functions and walk the slice, and each line
+// goes by value through a function that says what happens to one line.
+ghost use Rattle.record_steps.specs.Lent.{lentBoard, ProtectMet, FlushMet};
+use board::Answer;
 use board::Shape;
 use lines::Line;
 
-// Gives every held line named in the page the permission. A refusal leaves the lines.
-pub fn protect_lines(s: Shape, lines: &mut [Line], page: u64, write: bool) -> u32
-    ensures { λ r. ⌜ (r ≡ numberOf (linesFit s (length (now (lines .entry))))) × (now (lines .exit) ≡ protectedLines s page write (now (lines .entry))) ⌝ }
+// Changes a page's write bit, and that of every held line named in the page.
+pub fn protect(
+    s: Shape,
+    slots: &[u32],
+    words: &mut [u64],
+    lines: &mut [Line],
+    cache: &[u8],
+    memory: &[u8],
+    page: u64,
+    write: bool,
+) -> Answer
+    ensures { λ r. ⌜ ProtectMet s (lentBoard (now (slots .entry)) (now (words .entry)) (now (lines .entry)) (now (cache .entry)) (now (memory .entry))) page write r (lentBoard (now (slots .entry)) (now (words .exit)) (now (lines .exit)) (now (cache .entry)) (now (memory .entry))) ⌝ }
 {
-    let n = record_steps::protect_turns(s, lines.len());
+    let count = lines.len();
+    let a = record_steps::protect_word(
+        s,
+        slots.len(),
+        words,
+        count,
+        cache.len(),
+        memory.len(),
+        page,
+        write,
+    );
+    let n = record_steps::turns(a, count);
     let mut i = 0;
     while i < n {
         lines[i] = record_steps::protect_line(s, i, lines[i], page, write);
         i += 1;
     }
-    record_steps::number_of(n)
+    a
 }
 
-// Writes every held and changed line back, by rising place, and drops every held line. A refusal
-// leaves lines and memory.
-pub fn flush_lines(s: Shape, lines: &mut [Line], cache: &[u8], memory: &mut [u8]) -> u32
-    ensures { λ r. ⌜ (r ≡ numberOf (allFit s (length (now (lines .entry))) (length (now (cache .entry))) (length (now (memory .entry))))) × (now (lines .exit) ≡ flushedLines s (now (lines .entry)) (length (now (cache .entry))) (length (now (memory .entry)))) × (now (memory .exit) ≡ flushedBytes s (now (lines .entry)) (now (cache .entry)) (now (memory .entry))) ⌝ }
+// Writes every held and changed line back, by rising place, and drops every held line.
+pub fn flush_all(
+    s: Shape,
+    slots: &[u32],
+    words: &[u64],
+    lines: &mut [Line],
+    cache: &[u8],
+    memory: &mut [u8],
+) -> Answer
+    ensures { λ r. ⌜ FlushMet s (lentBoard (now (slots .entry)) (now (words .entry)) (now (lines .entry)) (now (cache .entry)) (now (memory .entry))) r (lentBoard (now (slots .entry)) (now (words .entry)) (now (lines .exit)) (now (cache .entry)) (now (memory .exit))) ⌝ }
 {
-    let n = record_steps::flush_turns(s, lines.len(), cache.len(), memory.len());
+    let count = lines.len();
+    let a = record_steps::flush_number(
+        s,
+        slots.len(),
+        words.len(),
+        count,
+        cache.len(),
+        memory.len(),
+    );
+    let n = record_steps::turns(a, count);
     let mut i = 0;
     while i < n {
         let l = record_steps::flush_line(s, i, lines[i], cache, memory);
         lines[i] = l;
         i += 1;
     }
-    record_steps::number_of(n)
-}
-
-// `protect_lines` on two lines by value: its callers need no walk.
-pub fn protect_two(s: Shape, ls: [Line; 2], page: u64, write: bool) -> [Line; 2]
-    ensures { λ r. ⌜ r ≡ protectedLines s page write ls ⌝ }
-{
-    let mut a = ls;
-    protect_lines(s, &mut a, page, write);
-    a
-}
-
-// `flush_lines` on two lines by value: its callers need no walk.
-pub fn flush_two(s: Shape, ls: [Line; 2], cache: &[u8], memory: &mut [u8]) -> [Line; 2]
-    ensures { λ r. ⌜ (r ≡ flushedLines s ls (length (now (cache .entry))) (length (now (memory .entry)))) × (now (memory .exit) ≡ flushedBytes s ls (now (cache .entry)) (now (memory .entry))) ⌝ }
-{
-    let mut a = ls;
-    flush_lines(s, &mut a, cache, memory);
     a
 }

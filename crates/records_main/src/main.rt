@@ -1,19 +1,76 @@
-// Runs protect and flush all on line records (F 1, U 0, P 1, L 2) and writes the lines and some
-// memory bytes after each. Line 0's place is 0, line 1's is 1; memory has physical lines 0 to 255.
+// Runs protect and flush all over two line records (F 1, U 0, P 1, L 2), every number of theirs, and writes a row for each call:
+// the answer, the two lines, and the frame word (protect) or two bytes of memory (flush all) after it.
+// Line 0's place is 0, line 1's is 1; memory has physical lines 0 to 255; the page 0x200000 is mapped to frame 0, writable.
+ghost use Prim.Native.Nat.{_≤_};
 use board::Shape;
 use libc::STDOUT_FILENO;
 use lines::Line;
+use record_bridges::TwoLines;
 
 const PAGE: u64 = 2097152;
 
+// The line names of the page begin here.
 const NAME: u64 = 536870912;
 
-fn shape(lines: usize) -> Shape {
-    Shape {
-        frames: 1,
-        uncached: 0,
-        processes: 1,
-        lines: lines,
+// The word of the page's frame: page × 4 + 2 + 1.
+const WORD: u64 = 8388611;
+
+// How many rows there are of each call.
+const ROWS: u64 = 17;
+
+// What a call is given: the numbers of the board, and how much of each buffer.
+pub struct Sizes {
+    pub shape: Shape,
+    pub slots: usize,
+    pub words: usize,
+    pub cache: usize,
+    pub memory: usize,
+}
+
+fn sized(
+    frames: usize,
+    uncached: usize,
+    processes: usize,
+    lines: usize,
+    slots: usize,
+    words: usize,
+    cache: usize,
+    memory: usize,
+) -> Sizes {
+    Sizes {
+        shape: Shape {
+            frames: frames,
+            uncached: uncached,
+            processes: processes,
+            lines: lines,
+        },
+        slots: slots,
+        words: words,
+        cache: cache,
+        memory: memory,
+    }
+}
+
+// What the rows are given: all as it should be, but for one thing from row 5 on: those are refused by number 1. Where a number is wrong the lengths agree with
+// it if they can.
+fn given(row: u64) -> Sizes {
+    match row {
+        // slots, words, lines, cache, memory
+        5 => sized(1, 0, 1, 2, 511, 1, 32, 4096),
+        6 => sized(1, 0, 1, 2, 512, 0, 32, 4096),
+        7 => sized(1, 0, 1, 1, 512, 1, 16, 4096),
+        8 => sized(1, 0, 1, 2, 512, 1, 31, 4096),
+        9 => sized(1, 0, 1, 2, 512, 1, 32, 4095),
+        // F 0 and 1,048,577; U above F; P 0 and 17; L 0, 3 and 65,536
+        10 => sized(0, 0, 1, 2, 512, 0, 32, 0),
+        11 => sized(1048577, 0, 1, 2, 512, 1, 32, 4096),
+        12 => sized(1, 2, 1, 2, 512, 1, 32, 4096),
+        13 => sized(1, 0, 0, 2, 0, 1, 32, 4096),
+        14 => sized(1, 0, 17, 2, 8704, 1, 32, 4096),
+        15 => sized(1, 0, 1, 0, 512, 1, 0, 4096),
+        16 => sized(1, 0, 1, 3, 512, 1, 32, 4096),
+        17 => sized(1, 0, 1, 65536, 512, 1, 32, 4096),
+        _ => sized(1, 0, 1, 2, 512, 1, 32, 4096),
     }
 }
 
@@ -28,6 +85,115 @@ fn line(valid: bool, name: u64, physical: u64, changed: bool) -> Line {
     }
 }
 
+// The page that protect is given.
+fn page(row: u64) -> u64 {
+    match row {
+        3 => 0,
+        4 => PAGE + 1,
+        _ => PAGE,
+    }
+}
+
+// The lines that protect is given.
+fn protect_lines(row: u64) -> [Line; 2] {
+    match row {
+        // line 0 is of the next page, line 1's physical line is past memory
+        2 => [
+            line(true, NAME + 256, 3, true),
+            line(true, NAME + 1, 256, true),
+        ],
+        // line 0 is of page 0, and of the page that is not mapped
+        3 => [line(true, 0, 3, true), line(true, NAME + 1, 5, true)],
+        4 => [
+            line(true, NAME + 256, 3, true),
+            line(true, NAME + 1, 5, true),
+        ],
+        // line 1 has line 0's name, so it is not at its place
+        _ => [line(true, NAME, 3, true), line(true, NAME, 5, true)],
+    }
+}
+
+// The lines that flush all is given.
+fn flush_lines(row: u64) -> [Line; 2] {
+    match row {
+        // a held changed line is written back, a misplaced one stays
+        1 => [line(true, NAME, 3, true), line(true, NAME, 5, true)],
+        // two lines of one physical line: the higher place is written last
+        2 => [line(true, NAME, 4, true), line(true, NAME + 1, 4, true)],
+        // a clean line is dropped, a line that is not valid stays; neither is written
+        3 => [line(true, NAME, 6, false), line(false, NAME + 1, 6, true)],
+        // lines whose physical line is past memory stay, as does memory
+        4 => [line(true, NAME, 256, true), line(true, NAME + 1, 257, true)],
+        _ => [line(true, NAME, 7, true), line(true, NAME + 1, 7, true)],
+    }
+}
+
+// The byte of memory that flush all's row shows, with the one after it.
+fn shown(row: u64) -> usize
+    ensures { λ r. ⌜ r ≤ 4094 ⌝ }
+{
+    match row {
+        1 => 48,
+        2 => 64,
+        3 => 96,
+        4 => 4094,
+        _ => 112,
+    }
+}
+
+fn least(a: usize, b: usize) -> usize
+    ensures { λ r. ⌜ (r ≤ a) × (r ≤ b) ⌝ }
+{
+    if a < b { a } else { b }
+}
+
+fn protect(
+    z: Sizes,
+    slots: &[u32],
+    words: &mut [u64],
+    ls: [Line; 2],
+    cache: &[u8],
+    memory: &[u8],
+    page: u64,
+) -> TwoLines {
+    let s = least(z.slots, slots.len());
+    let w = least(z.words, words.len());
+    let c = least(z.cache, cache.len());
+    let m = least(z.memory, memory.len());
+    record_bridges::protect_two(
+        z.shape,
+        &slots[0..s],
+        &mut words[0..w],
+        ls,
+        &cache[0..c],
+        &memory[0..m],
+        page,
+        false,
+    )
+}
+
+fn flush(
+    z: Sizes,
+    slots: &[u32],
+    words: &[u64],
+    ls: [Line; 2],
+    cache: &[u8],
+    memory: &mut [u8],
+) -> TwoLines {
+    let s = least(z.slots, slots.len());
+    let w = least(z.words, words.len());
+    let c = least(z.cache, cache.len());
+    let m = least(z.memory, memory.len());
+    record_bridges::flush_two(
+        z.shape,
+        &slots[0..s],
+        &words[0..w],
+        ls,
+        &cache[0..c],
+        &mut memory[0..m],
+    )
+}
+
 fn write_field(x: u64, end: &[u8]) {
     io::print_decimal(STDOUT_FILENO, x);
     io::write_all(STDOUT_FILENO, end);
@@ -38,124 +204,83 @@ fn write_line(l: Line) {
     write_field(l.name, b" ");
     write_field(l.physical, b" ");
     write_field(board::bit_of(l.changed), b" ");
-    write_field(board::bit_of(l.write), b"\n");
-}
-
-fn write_lines(ls: [Line; 2]) {
-    write_line(ls[0]);
-    write_line(ls[1]);
+    write_field(board::bit_of(l.write), b" ");
 }
 
 fn wide(x: u8) -> u64 {
     x as u64
 }
 
-// The byte of memory at this place.
-fn write_byte(memory: &[u8], at: usize) {
-    io::write_all(STDOUT_FILENO, b"byte ");
-    write_field(at as u64, b" ");
-    if at < memory.len() {
-        write_field(wide(memory[at]), b"\n");
+// The byte of memory at this place, and the next.
+fn write_bytes(memory: &[u8], at: usize)
+    requires { ⌜ at ≤ 4094 ⌝ }
+{
+    if at + 1 < memory.len() {
+        write_field(wide(memory[at]), b" ");
+        write_field(wide(memory[at + 1]), b"\n");
     }
 }
 
-// Protect PAGE, read-only.
-fn protect(title: &[u8], a: Line, b: Line) {
-    io::write_all(STDOUT_FILENO, title);
-    write_lines(records::protect_two(shape(2), [a, b], PAGE, false));
+// The answer and the lines.
+fn write_row(row: u64, t: TwoLines) {
+    write_field(row, b" ");
+    write_field(t.answer.number as u64, b" ");
+    write_field(t.answer.value as u64, b" ");
+    write_field(t.answer.mark as u64, b" ");
+    write_line(t.lines[0]);
+    write_line(t.lines[1]);
 }
 
-// Flush all, on a board of so many lines, and two bytes of memory after it.
-fn flush(
-    title: &[u8],
-    lines: usize,
-    a: Line,
-    b: Line,
-    cache: &[u8],
-    memory: &mut [u8],
-    first: usize,
-    second: usize,
-) {
-    io::write_all(STDOUT_FILENO, title);
-    write_lines(records::flush_two(shape(lines), [a, b], cache, memory));
-    write_byte(memory, first);
-    write_byte(memory, second);
+// Protect the page, read-only.
+fn protect_row(row: u64, slots: &[u32], cache: &[u8], memory: &[u8]) {
+    let mut words: [u64; 1] = [WORD];
+    let t = protect(
+        given(row),
+        slots,
+        &mut words,
+        protect_lines(row),
+        cache,
+        memory,
+        page(row),
+    );
+    write_row(row, t);
+    write_field(words[0], b"\n");
 }
 
-fn protects() {
-    // line 1 has line 0's name, so it is not at its place
-    protect(
-        b"protect\n",
-        line(true, NAME, 3, true),
-        line(true, NAME, 5, true),
-    );
-    // line 0 is of the next page, line 1's physical line is past memory
-    protect(
-        b"protect, none held in the page\n",
-        line(true, NAME + 256, 3, true),
-        line(true, NAME + 1, 256, true),
-    );
+// Flush all.
+fn flush_row(row: u64, slots: &[u32], cache: &[u8], memory: &mut [u8]) {
+    let words: [u64; 1] = [WORD];
+    let t = flush(given(row), slots, &words, flush_lines(row), cache, memory);
+    write_row(row, t);
+    write_bytes(memory, shown(row));
 }
 
-// Flush all of changed lines.
-fn flush_changed(cache: &[u8], memory: &mut [u8]) {
-    // a held changed line is written back, a misplaced one stays
-    flush(
-        b"flush all\n",
-        2,
-        line(true, NAME, 3, true),
-        line(true, NAME, 5, true),
-        cache,
-        memory,
-        48,
-        80,
-    );
-    // two lines of one physical line: the higher place is written last
-    flush(
-        b"flush all, one physical line\n",
-        2,
-        line(true, NAME, 3, true),
-        line(true, NAME + 1, 3, true),
-        cache,
-        memory,
-        48,
-        49,
-    );
+fn protects(slots: &[u32], cache: &[u8], memory: &[u8]) {
+    for row in 1..=ROWS {
+        protect_row(row, slots, cache, memory);
+    }
 }
 
-// Flush all that writes nothing.
-fn flush_nothing(cache: &[u8], memory: &mut [u8]) {
-    // a clean line is dropped, a line that is not valid stays; neither is written
-    flush(
-        b"flush all, clean\n",
-        2,
-        line(true, NAME, 6, false),
-        line(false, NAME + 1, 6, true),
-        cache,
-        memory,
-        96,
-        97,
-    );
-    // two lines on a board of one line: refused
-    flush(
-        b"flush all, refused\n",
-        1,
-        line(true, NAME, 7, true),
-        line(true, NAME + 1, 7, true),
-        cache,
-        memory,
-        112,
-        113,
-    );
+fn flushes(slots: &[u32], cache: &[u8], memory: &mut [u8]) {
+    for row in 1..=ROWS {
+        flush_row(row, slots, cache, memory);
+    }
 }
 
 // Cache line 0 is all 5, line 1 begins with 9.
 fn main() {
+    let slots: [u32; 8704] = [0; 8704];
     let mut cache: [u8; 32] = [5; 32];
     cache[16] = 9;
     let mut memory: [u8; 4096] = [0; 4096];
-    io::write_all(STDOUT_FILENO, b"valid name physical changed write\n");
-    protects();
-    flush_changed(&cache, &mut memory);
-    flush_nothing(&cache, &mut memory);
+    io::write_all(
+        STDOUT_FILENO,
+        b"protect: row number value mark, valid name physical changed write of line 0, of line 1, word\n",
+    );
+    protects(&slots, &cache, &memory);
+    io::write_all(
+        STDOUT_FILENO,
+        b"flush all: row number value mark, valid name physical changed write of line 0, of line 1, two bytes\n",
+    );
+    flushes(&slots, &cache, &mut memory);
 }

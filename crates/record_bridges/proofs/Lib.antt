@@ -1,0 +1,2 @@
+-- The laws of this crate that proofs cite.
+pub mod Arrays
