@@ -5,9 +5,9 @@ ghost use lib.ListN.{length};
 ghost use Rattle.address.specs.Layout.{lineBytes};
 ghost use Rattle.line_bytes.specs.Premises.{Width};
 ghost use Rattle.stores.specs.Premises.{Sized};
-ghost use Rattle.stores.specs.Stores.{store as storeOf};
+ghost use Rattle.stores.specs.Lent.{storeBefore, storeAfter};
 ghost use Rattle.machine.specs.Refusals.{alignedTo};
-ghost use Rattle.machine.specs.Accesses.{reached, performedOn, memoryAccess};
+ghost use Rattle.machine.specs.Accesses.{ended, performedOn, memoryAccess};
 ghost use Rattle.line_access.specs.LineAccess.{lineAccess};
 use address::Global;
 use address::LINE_BYTES;
@@ -45,7 +45,7 @@ fn perform_on(
     mark: u32,
 ) -> Answer
     requires { ⌜ (2 * i + 2 ≤ length (now records)) × (16 * i + offset + a .width ≤ length (now cache)) × Width (a .width) ⌝ }
-    ensures { λ r. ⌜ reached r (now (records .exit)) (now (cache .exit)) (now (memory .entry)) ≡ performedOn i offset a mark (storeOf (now (records .entry)) (now (cache .entry)) (now (memory .entry))) ⌝ }
+    ensures { λ r. ⌜ ended r (storeAfter records cache memory) ≡ performedOn i offset a mark (storeBefore records cache memory) ⌝ }
 {
     let value = stores::perform(records, cache, i, offset, a);
     Answer {
@@ -67,7 +67,7 @@ pub fn line_access(
     a: Access,
 ) -> Answer
     requires { ⌜ Sized s (now records) (now cache) (now memory) × (length (now words) ≡ s .frames) × Width (a .width) × (g .0 % lineBytes + a .width ≤ lineBytes) ⌝ }
-    ensures { λ r. ⌜ reached r (now (records .exit)) (now (cache .exit)) (now (memory .exit)) ≡ lineAccess s (now (words .entry)) g user a (storeOf (now (records .entry)) (now (cache .entry)) (now (memory .entry))) ⌝ }
+    ensures { λ r. ⌜ ended r (storeAfter records cache memory) ≡ lineAccess s (now (words .entry)) g user a (storeBefore records cache memory) ⌝ }
 {
     let name = g.name();
     let lines = s.lines;
@@ -101,7 +101,7 @@ pub fn memory_access(
     a: Access,
 ) -> Answer
     requires { ⌜ (p .0 + a .width ≤ length (now memory)) × Width (a .width) ⌝ }
-    ensures { λ r. ⌜ reached r (now (records .entry)) (now (cache .entry)) (now (memory .exit)) ≡ memoryAccess p a (storeOf (now (records .entry)) (now (cache .entry)) (now (memory .entry))) ⌝ }
+    ensures { λ r. ⌜ ended r (storeAfter records cache memory) ≡ memoryAccess p a (storeBefore records cache memory) ⌝ }
 {
     let at = p.0 as usize;
     let width = a.width;

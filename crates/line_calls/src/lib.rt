@@ -5,7 +5,8 @@ ghost use denote.Ref.{ptr};
 ghost use Rattle.address.specs.Layout.{pageLines};
 ghost use Rattle.board.specs.declared.Pending.{Pending};
 ghost use Rattle.lines.specs.Holds.{keeperOf};
-ghost use Rattle.stores.specs.Stores.{store as storeOf, current};
+ghost use Rattle.stores.specs.Stores.{current};
+ghost use Rattle.stores.specs.Lent.{storeBefore};
 ghost use Rattle.stores.specs.Premises.{Sized};
 ghost use Rattle.machine.specs.Boards.{ways};
 ghost use Rattle.machine.specs.Looks.{startBy};
@@ -82,7 +83,7 @@ fn current_part<'a>(
     line: usize,
 ) -> &'a [u8]
     requires { ⌜ Sized s (now records) (now cache) (now memory) × (line < pageLines * s .frames) ⌝ }
-    ensures { λ r. ⌜ (now r ≡ current ways s (storeOf (now (records .entry)) (now (cache .entry)) (now (memory .entry))) line) × (ptr r ≡ startBy (ptr (cache .entry)) (ptr (memory .entry)) line (keeperOf ways s (now (records .entry)) line)) ⌝ }
+    ensures { λ r. ⌜ (now r ≡ current ways s (storeBefore records cache memory) line) × (ptr r ≡ startBy (ptr (cache .entry)) (ptr (memory .entry)) line (keeperOf ways s (now (records .entry)) line)) ⌝ }
 {
     match lines::keeper_of(s, records, line) {
         Found::At(i) => {

@@ -4,7 +4,7 @@ ghost use Prim.Native.Nat.{_*_, _≤_, _<_};
 ghost use lib.ListN.{length};
 ghost use Rattle.address.specs.Layout.{pageLines};
 ghost use Rattle.board.specs.Shapes.{maxFrames};
-ghost use Rattle.stores.specs.Stores.{store as storeOf};
+ghost use Rattle.stores.specs.Lent.{storeBefore, storeAfter};
 ghost use Rattle.stores.specs.Premises.{Sized};
 ghost use Rattle.machine.specs.Calls.{loaded};
 ghost use Rattle.machine.specs.Contracts.{before, after, LoadAndMap};
@@ -64,7 +64,7 @@ fn load_line(
     write: bool,
 )
     requires { ⌜ Sized s (now records) (now cache) (now memory) × (line < pageLines * s .frames) ⌝ }
-    ensures { λ _. ⌜ storeOf (now (records .exit)) (now (cache .exit)) (now (memory .exit)) ≡ loaded s name line write (storeOf (now (records .entry)) (now (cache .entry)) (now (memory .entry))) ⌝ }
+    ensures { λ _. ⌜ storeAfter records cache memory ≡ loaded s name line write (storeBefore records cache memory) ⌝ }
 {
     match lines::holder_of(s, records, name) {
         Found::At(_) => {}

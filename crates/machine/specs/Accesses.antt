@@ -32,11 +32,14 @@ pub record Reached : Type 0 where
   pub answer : Answer
   pub after : Store
 
+abbrev pub ended : Answer → Store → Reached
+ended a b = record { answer = a; after = b }
+
 abbrev pub reached : Answer → List ℕ → List ℕ → List ℕ → Reached
-reached a records cache memory = record { answer = a; after = store records cache memory }
+reached a records cache memory = ended a (store records cache memory)
 
 abbrev pub stopped : Store → ℕ → Reached
-stopped b n = record { answer = answer n 0 0; after = b }
+stopped b n = ended (answer n 0 0) b
 
 -- a load or a store that is done on a line now held, and its mark
 abbrev pub reachedBy : Performed → List ℕ → ℕ → Reached

@@ -6,12 +6,12 @@ use mathlib.Core.Path.{_≡_}
 use mathlib.Core.Bool.{Bool}
 use mathlib.Core.List.{List}
 use denote.Ref.{RefT, ptr, now}
-use denote.Triple.Both.{Both}
 use Rattle.address.specs.declared.Effective.{Effective}
 use Rattle.address.specs.declared.Global.{Global}
 use Rattle.board.specs.declared.Shape.{Shape}
 use Rattle.board.specs.declared.Pending.{Pending}
 use Rattle.board.specs.declared.Answer.{Answer}
+use Rattle.stores.specs.Lent.{Buffer}
 use Rattle.stores.specs.declared.Access.{Access}
 use Rattle.machine.specs.Boards.{Board, board, outcome}
 use Rattle.machine.specs.Accesses.{userAccess, supervisorAccess}
@@ -19,10 +19,6 @@ use Rattle.machine.specs.Calls as calls
 use Rattle.machine.specs.Looks.{lookNumber, look, lookStart}
 
 -- ---- the board as a call's buffers have it
-
--- a buffer that a call is lent: its contents as the call begins and as it ends
-abbrev pub Buffer : Type 0
-Buffer = Both (RefT (List ℕ)) (RefT (List ℕ))
 
 -- the board that the buffers and a tag are before the call, and after it
 abbrev pub before : Buffer → Buffer → Buffer → Buffer → Buffer → Pending → Board
@@ -78,8 +74,8 @@ Look s b line cache memory part = (now part ≡ look s b line) × (ptr part ≡ 
 -- ---- no second outcome
 
 -- two outcomes that meet the contract agree in number, value, mark and every slot, word, record, byte and tag
-abbrev pub Determines : (Answer → Board → Type 0) → Type 0
-Determines Meets = (r q : Answer) (c d : Board) → Meets r c → Meets q d → (r ≡ q) × (c ≡ d)
+abbrev pub Determines : {Board : Type 0} → (Answer → Board → Type 0) → Type 0
+Determines {Board} Meets = (r q : Answer) (c d : Board) → Meets r c → Meets q d → (r ≡ q) × (c ≡ d)
 
 pub record NoSecondOutcome : Type 0 where
   pub user-access : (s : Shape) (b : Board) (process : ℕ) (a : Access) (e : Effective) → Determines (UserAccess s b process a e)

@@ -1,6 +1,7 @@
 // Protect and flush all over a lent slice, on two lines by value: each puts the lines into a local, calls through a slice of it,
 // and gives back the answer and what stands there. Whoever calls one needs no walk.
-ghost use Rattle.record_steps.specs.Lent.{lentBoard, ProtectMet, FlushMet};
+ghost use Rattle.record_steps.specs.Lent.{lentBoard};
+ghost use Rattle.record_steps.specs.Contracts.{ProtectLent, FlushLent};
 use board::Answer;
 use board::Shape;
 use lines::Line;
@@ -22,7 +23,7 @@ pub fn protect_two(
     page: u64,
     write: bool,
 ) -> TwoLines
-    ensures { λ r. ⌜ ProtectMet s (lentBoard (now (slots .entry)) (now (words .entry)) ls (now (cache .entry)) (now (memory .entry))) page write (r .answer) (lentBoard (now (slots .entry)) (now (words .exit)) (r .lines) (now (cache .entry)) (now (memory .entry))) ⌝ }
+    ensures { λ r. ⌜ ProtectLent s (lentBoard (now (slots .entry)) (now (words .entry)) ls (now (cache .entry)) (now (memory .entry))) page write (r .answer) (lentBoard (now (slots .entry)) (now (words .exit)) (r .lines) (now (cache .entry)) (now (memory .entry))) ⌝ }
 {
     let mut held = ls;
     let answer = records::protect(s, slots, words, &mut held, cache, memory, page, write);
@@ -41,7 +42,7 @@ pub fn flush_two(
     cache: &[u8],
     memory: &mut [u8],
 ) -> TwoLines
-    ensures { λ r. ⌜ FlushMet s (lentBoard (now (slots .entry)) (now (words .entry)) ls (now (cache .entry)) (now (memory .entry))) (r .answer) (lentBoard (now (slots .entry)) (now (words .entry)) (r .lines) (now (cache .entry)) (now (memory .exit))) ⌝ }
+    ensures { λ r. ⌜ FlushLent s (lentBoard (now (slots .entry)) (now (words .entry)) ls (now (cache .entry)) (now (memory .entry))) (r .answer) (lentBoard (now (slots .entry)) (now (words .entry)) (r .lines) (now (cache .entry)) (now (memory .exit))) ⌝ }
 {
     let mut held = ls;
     let answer = records::flush_all(s, slots, words, &mut held, cache, memory);

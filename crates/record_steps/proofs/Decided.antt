@@ -23,7 +23,8 @@ use Rattle.page_calls.specs.Checks.{pageFrame}
 use Rattle.page_calls.specs.declared.Frame.{Frame}
 use Rattle.page_calls.specs.declared.Frame.the-variants.{Stop, On}
 use Rattle.page_calls.proofs.Pages.{byFrame}
-use Rattle.record_steps.specs.Lent.{Placed, LentOutcome, lentBoard, lentOutcome, linesVisited, flushedMemory, protectedWords, protectLent, flushLent, ProtectMet, FlushMet, Worded, worded, wordChanged, flushAnswer, turnsWhen}
+use Rattle.record_steps.specs.Lent.{Placed, LentOutcome, lentBoard, lentOutcome, linesVisited, flushedMemory, protectedWords, protectLent, flushLent, Worded, worded, wordChanged, flushAnswer, turnsWhen}
+use Rattle.record_steps.specs.Contracts.{ProtectLent, FlushLent}
 
 -- ---- the turns
 
@@ -130,7 +131,7 @@ module _ (s : Shape) (slots w : List ℕ) (ls : List Line) (c m : List ℕ) wher
     withLines x = lentOutcome (x .answer) (lentBoard slots (x .words) (cond (eqb (x .answer .number) 0) (linesVisited s (Protect page write) 0 ls) ls) c m)
 
     pub protect-met : (a : Answer) (w₁ : List ℕ) → worded a w₁ ≡ wordChanged s (length slots) w (length ls) (length c) (length m) page write
-        → ProtectMet s (lentBoard slots w ls c m) page write a (lentBoard slots w₁ (cond (eqb (a .number) 0) (linesVisited s (Protect page write) 0 ls) ls) c m)
+        → ProtectLent s (lentBoard slots w ls c m) page write a (lentBoard slots w₁ (cond (eqb (a .number) 0) (linesVisited s (Protect page write) 0 ls) ls) c m)
     unfolding wordChanged protectLent byTable
     protect-met a w₁ e =
         ap withLines e ∙ go (fitsShape s (length slots) (length w) (recordWords * length ls) (length c) (length m)) (ordinaryPage page) (isMapped (mappedTo s w page))
@@ -145,7 +146,7 @@ module _ (s : Shape) (slots w : List ℕ) (ls : List Line) (c m : List ℕ) wher
         go true true true = refl
 
   pub flush-met : (a : Answer) → a ≡ flushAnswer s (length slots) (length w) (length ls) (length c) (length m)
-      → FlushMet s (lentBoard slots w ls c m) a (lentBoard slots w (cond (eqb (a .number) 0) (linesVisited s Flush 0 ls) ls) c (cond (eqb (a .number) 0) (flushedMemory s 0 ls c m) m))
+      → FlushLent s (lentBoard slots w ls c m) a (lentBoard slots w (cond (eqb (a .number) 0) (linesVisited s Flush 0 ls) ls) c (cond (eqb (a .number) 0) (flushedMemory s 0 ls c m) m))
   unfolding flushLent byTable
   flush-met a e = ap walked e ∙ go (fitsShape s (length slots) (length w) (recordWords * length ls) (length c) (length m))
     where

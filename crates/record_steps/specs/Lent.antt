@@ -106,14 +106,6 @@ flushLent s b =
     byTable (lentRefused b) (lentFlushTable s (length (b .slots)) (length (b .words)) (length (b .lines)) (length (b .cache)) (length (b .memory)))
     (lentDone (lentBoard (b .slots) (b .words) (linesVisited s Flush 0 (b .lines)) (b .cache) (flushedMemory s 0 (b .lines) (b .cache) (b .memory))))
 
--- ---- what it is to meet the contract of a call: with this answer, and this board after it
-
-abbrev pub ProtectMet : Shape → LentBoard → ℕ → Bool → Answer → LentBoard → Type 0
-ProtectMet s b page write r after = lentOutcome r after ≡ protectLent s b page write
-
-abbrev pub FlushMet : Shape → LentBoard → Answer → LentBoard → Type 0
-FlushMet s b r after = lentOutcome r after ≡ flushLent s b
-
 -- ---- what the code inside decides and asks; no call's definition needs these
 
 -- an answer and the frame words: what protect has before it walks the lines

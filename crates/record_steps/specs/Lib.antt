@@ -1,3 +1,3 @@
 pub mod Lent
 pub mod Link
-pub mod Determined
+pub mod Contracts

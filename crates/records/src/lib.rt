@@ -1,6 +1,6 @@
 // Line records as a lent slice of structs: protect and flush all decide by covered functions and walk the slice, and each line
 // goes by value through a function that says what happens to one line.
-ghost use Rattle.record_steps.specs.Lent.{lentBoard, ProtectMet, FlushMet};
+ghost use Rattle.record_steps.specs.Contracts.{lentBefore, lentAfter, ProtectLent, FlushLent};
 use board::Answer;
 use board::Shape;
 use lines::Line;
@@ -16,7 +16,7 @@ pub fn protect(
     page: u64,
     write: bool,
 ) -> Answer
-    ensures { λ r. ⌜ ProtectMet s (lentBoard (now (slots .entry)) (now (words .entry)) (now (lines .entry)) (now (cache .entry)) (now (memory .entry))) page write r (lentBoard (now (slots .entry)) (now (words .exit)) (now (lines .exit)) (now (cache .entry)) (now (memory .entry))) ⌝ }
+    ensures { λ r. ⌜ ProtectLent s (lentBefore slots words lines cache memory) page write r (lentAfter slots words lines cache memory) ⌝ }
 {
     let count = lines.len();
     let a = record_steps::protect_word(
@@ -47,7 +47,7 @@ pub fn flush_all(
     cache: &[u8],
     memory: &mut [u8],
 ) -> Answer
-    ensures { λ r. ⌜ FlushMet s (lentBoard (now (slots .entry)) (now (words .entry)) (now (lines .entry)) (now (cache .entry)) (now (memory .entry))) r (lentBoard (now (slots .entry)) (now (words .entry)) (now (lines .exit)) (now (cache .entry)) (now (memory .exit))) ⌝ }
+    ensures { λ r. ⌜ FlushLent s (lentBefore slots words lines cache memory) r (lentAfter slots words lines cache memory) ⌝ }
 {
     let count = lines.len();
     let a = record_steps::flush_number(

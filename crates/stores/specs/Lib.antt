@@ -1,2 +1,3 @@
 pub mod Stores
 pub mod Premises
+pub mod Lent

@@ -5,7 +5,8 @@ ghost use lib.ListN.{length};
 ghost use Rattle.address.specs.Layout.{lineBytes, pageLines};
 ghost use Rattle.line_bytes.specs.Premises.{Width};
 ghost use Rattle.stores.specs.Premises.{Sized};
-ghost use Rattle.stores.specs.Stores.{store as storeOf, writtenBack, inserted, performed, performedAt};
+ghost use Rattle.stores.specs.Stores.{writtenBack, inserted, performed, performedAt};
+ghost use Rattle.stores.specs.Lent.{storeBefore, storeAfter};
 use board::LINE_BYTES;
 use board::Shape;
 use lines::Line;
@@ -20,7 +21,7 @@ pub struct Access {
 // Writes the line of record `i` back to its own physical line, if it is held and changed.
 pub fn write_back(s: Shape, records: &[u64], cache: &[u8], memory: &mut [u8], i: usize)
     requires { ⌜ Sized s (now records) (now cache) (now memory) × (i < s .lines) ⌝ }
-    ensures { λ _. ⌜ storeOf (now (records .entry)) (now (cache .entry)) (now (memory .exit)) ≡ writtenBack 1 s i (storeOf (now (records .entry)) (now (cache .entry)) (now (memory .entry))) ⌝ }
+    ensures { λ _. ⌜ storeAfter records cache memory ≡ writtenBack 1 s i (storeBefore records cache memory) ⌝ }
 {
     let l = lines::line_at(records, i);
     if l.changed {
@@ -42,7 +43,7 @@ pub fn insert(
     write: bool,
 )
     requires { ⌜ Sized s (now records) (now cache) (now memory) × (i < s .lines) × (line < pageLines * s .frames) ⌝ }
-    ensures { λ _. ⌜ storeOf (now (records .exit)) (now (cache .exit)) (now (memory .exit)) ≡ inserted 1 s i name line write (storeOf (now (records .entry)) (now (cache .entry)) (now (memory .entry))) ⌝ }
+    ensures { λ _. ⌜ storeAfter records cache memory ≡ inserted 1 s i name line write (storeBefore records cache memory) ⌝ }
 {
     write_back(s, records, cache, memory, i);
     line_bytes::copy_line(cache, i, memory, line);

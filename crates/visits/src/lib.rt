@@ -4,7 +4,7 @@ ghost use Prim.Native.Nat.{_<_};
 ghost use lib.Dec.{eqb};
 ghost use Rattle.pages.specs.Pages.{directPage};
 ghost use Rattle.stores.specs.Premises.{Sized};
-ghost use Rattle.stores.specs.Stores.{store as storeOf};
+ghost use Rattle.stores.specs.Lent.{storeBefore, storeAfter};
 ghost use Rattle.visits.specs.Visits.{selects, treated, visited, visitedAll};
 use address::PAGE_NAMES;
 use board::Shape;
@@ -47,7 +47,7 @@ fn selected(v: Visit, l: Line) -> bool
 // Does to the line of record `i` what the visit is for.
 fn treat(s: Shape, records: &mut [u64], cache: &[u8], memory: &mut [u8], i: usize, v: Visit)
     requires { ⌜ Sized s (now records) (now cache) (now memory) × (i < s .lines) ⌝ }
-    ensures { λ _. ⌜ storeOf (now (records .exit)) (now (cache .entry)) (now (memory .exit)) ≡ treated 1 s v i (storeOf (now (records .entry)) (now (cache .entry)) (now (memory .entry))) ⌝ }
+    ensures { λ _. ⌜ storeAfter records cache memory ≡ treated 1 s v i (storeBefore records cache memory) ⌝ }
 {
     match v {
         Visit::Map(_, _) => {
@@ -70,7 +70,7 @@ fn treat(s: Shape, records: &mut [u64], cache: &[u8], memory: &mut [u8], i: usiz
 // Visits record `i`: only a held line changes.
 fn visit_line(s: Shape, records: &mut [u64], cache: &[u8], memory: &mut [u8], i: usize, v: Visit)
     requires { ⌜ Sized s (now records) (now cache) (now memory) × (i < s .lines) ⌝ }
-    ensures { λ _. ⌜ storeOf (now (records .exit)) (now (cache .entry)) (now (memory .exit)) ≡ visited 1 s v i (storeOf (now (records .entry)) (now (cache .entry)) (now (memory .entry))) ⌝ }
+    ensures { λ _. ⌜ storeAfter records cache memory ≡ visited 1 s v i (storeBefore records cache memory) ⌝ }
 {
     let l = lines::line_at(records, i);
     let h = lines::holds(s, i, l);
@@ -82,7 +82,7 @@ fn visit_line(s: Shape, records: &mut [u64], cache: &[u8], memory: &mut [u8], i:
 // Visits every record, by rising place.
 pub fn visit_all(s: Shape, records: &mut [u64], cache: &[u8], memory: &mut [u8], v: Visit)
     requires { ⌜ Sized s (now records) (now cache) (now memory) ⌝ }
-    ensures { λ _. ⌜ storeOf (now (records .exit)) (now (cache .entry)) (now (memory .exit)) ≡ visitedAll 1 s v (storeOf (now (records .entry)) (now (cache .entry)) (now (memory .entry))) ⌝ }
+    ensures { λ _. ⌜ storeAfter records cache memory ≡ visitedAll 1 s v (storeBefore records cache memory) ⌝ }
 {
     let lines = s.lines;
     let mut i: usize = 0;
