@@ -1,4 +1,5 @@
--- Every answer that a call gives fits the packing, whatever the board.
+-- Of every answer that a call gives, whatever the board, the number is below 16 and the mark below 2.
+-- (The value is below 2^32 because it is a `u32` in the code.)
 use Prim.Native.Nat.{ℕ}
 use mathlib.Core.Bool.{Bool}
 use Rattle.address.specs.declared.Effective.{Effective}

@@ -1,5 +1,5 @@
 -- How an answer crosses to C and Rust: as one number of 64 bits, number × 2^33 + mark × 2^32 + value.
--- A contract reads the answer off that number, so it says `outcome (unpacked r) ..` where the call's own says `outcome r ..`.
+-- A contract reads the answer off that number: it cites the call's own with `unpacked r` for the answer.
 use Prim.Native.Nat.{ℕ, _+_, _*_, _/_, _%_, _<_, _^_}
 use mathlib.Core.Path.{_≡_}
 use mathlib.Core.Bool.{Bool, not, cond}

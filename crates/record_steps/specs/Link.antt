@@ -1,5 +1,5 @@
--- The board with a list of lines and the board with record words are the same machine: read by the board's own `lineAt`, what protect and flush all
--- make of a board is what they make of its lines. The board may fit its shape or not.
+-- Protect and flush all on the lines of a board of n records give what the board's own calls give: answer, slots, words, lines read by the board's own
+-- `lineAt`, cache and memory. The board may fit its shape or not.
 use Prim.Native.Nat.{ℕ, zero, suc, _*_}
 use mathlib.Core.Path.{_≡_}
 use mathlib.Core.Bool.{Bool}
