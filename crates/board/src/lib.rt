@@ -74,7 +74,7 @@ pub fn bit_of(b: bool) -> u64
 }
 
 // The numbers are within their limits.
-pub fn limits_hold(s: Shape) -> bool
+fn limits_hold(s: Shape) -> bool
     ensures { λ r. ⌜ r ≡ limitsHold s ⌝ }
 {
     let ones = usize::count_ones(s.lines);

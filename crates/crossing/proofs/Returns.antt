@@ -12,8 +12,8 @@ use Rattle.crossing.specs.Returns.{FlagKept, Returned, boardOf, Meets, R
 use Rattle.crossing.proofs.Packs.{nothing-lost}
 
 -- what is returned, read off an answer, a board and the tag's first word before the call
-returned : ℕ → Answer → Board → Returned
-returned before r c = record {
+readOff : ℕ → Answer → Board → Returned
+readOff before r c = record {
   result = packed r;
   slots = c .slots;
   words = c .words;
@@ -24,9 +24,17 @@ returned before r c = record {
   name = c .tag .name;
 }
 
+-- numbers that unpack to one answer are one
+packed-again : (r q : ℕ) → unpacked r ≡ unpacked q → r ≡ q
+packed-again r q e = sym (nothing-lost .numbers r) ∙ ap packed e ∙ nothing-lost .numbers q
+
+answer-second : (Contract : Answer → Board → Type 0) → Determines Contract → (r q : ℕ) (c d : Board)
+    → Contract (unpacked r) c → Contract (unpacked q) d → (r ≡ q) × (c ≡ d)
+answer-second Contract one r q c d p h = let e = one (unpacked r) (unpacked q) c d p h in (packed-again r q (e .0), e .1)
+
 -- a return says its number and its flag's word anew
-return-again : (before : ℕ) (x : Returned) → FlagKept before (x .set) → x ≡ returned before (unpacked (x .result)) (boardOf x)
-unfolding returned
+return-again : (before : ℕ) (x : Returned) → FlagKept before (x .set) → x ≡ readOff before (unpacked (x .result)) (boardOf x)
+unfolding readOff
 return-again before x h =
     ap (λ (q : ℕ). record { result = q; slots = x .slots; words = x .words; records = x .records; cache = x .cache; memory = x .memory; set = x .set; name = x .name })
     (sym (nothing-lost .numbers (x .result)))
@@ -35,10 +43,10 @@ return-again before x h =
 second : (Contract : Answer → Board → Type 0) → Determines Contract → (before : ℕ) (x y : Returned)
     → Meets Contract before x → Meets Contract before y → x ≡ y
 second Contract one before x y p q =
-    let e = one (unpacked (x .result)) (unpacked (y .result)) (boardOf x) (boardOf y) (p .same-outcome) (q .same-outcome) in
-    return-again before x (p .same-flag)
-    ∙ ap (λ (r : Answer). returned before r (boardOf x)) (e .0) ∙ ap (returned before (unpacked (y .result))) (e .1)
-    ∙ sym (return-again before y (q .same-flag))
+    let e = one (unpacked (x .result)) (unpacked (y .result)) (boardOf x) (boardOf y) (p .0) (q .0) in
+    return-again before x (p .1)
+    ∙ ap (λ (r : Answer). readOff before r (boardOf x)) (e .0) ∙ ap (readOff before (unpacked (y .result))) (e .1)
+    ∙ sym (return-again before y (q .1))
 
 -- a flag's word that says the same as before is the word before
 word-same : (before : ℕ) (t : Bool) → isYes before ≡ t → wordAfter before t ≡ before
@@ -53,4 +61,4 @@ kept before name after name′ e w =
     (w ∙ word-same before (isYes after) (sym f), ap (λ (t : Pending). t .name) e)
 
 pub returns : Returns
-returns = record { no-second-return = second; words-kept = kept }
+returns = record { no-second-answer = answer-second; no-second-return = second; words-kept = kept }

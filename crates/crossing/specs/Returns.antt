@@ -7,19 +7,17 @@ use denote.Ref.{RefT, now}
 use denote.Triple.Both.{Both}
 use Rattle.board.specs.declared.Answer.{Answer}
 use Rattle.board.specs.declared.Pending.{Pending}
+use Rattle.stores.specs.Lent.{Buffer}
 use Rattle.machine.specs.Boards.{Board, board}
 use Rattle.machine.specs.Contracts.{Determines}
 use Rattle.crossing.specs.Packing.{unpacked, isYes, wordAfter, tagOf}
 
--- a word that a call is lent, and the tag that the caller's two words are before the call and after it
+-- a word that a call is lent, and the tag that the caller's two words are before the call
 abbrev pub Word : Type 0
 Word = Both (RefT ℕ) (RefT ℕ)
 
 abbrev pub tagBefore : Word → Word → Pending
 tagBefore set name = tagOf (now (set .entry)) (now (name .entry))
-
-abbrev pub tagAfter : Word → Word → Pending
-tagAfter set name = tagOf (now (set .exit)) (now (name .exit))
 
 -- the flag's word after a call: the caller's own while it says the same, else 1 or 0
 abbrev pub FlagKept : ℕ → ℕ → Type 0
@@ -39,13 +37,28 @@ pub record Returned : Type 0 where
 abbrev pub boardOf : Returned → Board
 boardOf x = board (x .slots) (x .words) (x .records) (x .cache) (x .memory) (tagOf (x .set) (x .name))
 
--- it meets a call's contract, where the tag's first word was `before`
-pub record Meets (Contract : Answer → Board → Type 0) (before : ℕ) (x : Returned) : Type 0 where
-  pub same-outcome : Contract (unpacked (x .result)) (boardOf x)
-  pub same-flag : FlagKept before (x .set)
+abbrev pub returned : ℕ → Buffer → Buffer → Buffer → Buffer → Buffer → Word → Word → Returned
+returned r slots words records cache memory set name = record {
+  result = r;
+  slots = now (slots .exit);
+  words = now (words .exit);
+  records = now (records .exit);
+  cache = now (cache .exit);
+  memory = now (memory .exit);
+  set = now (set .exit);
+  name = now (name .exit);
+}
+
+-- it meets the contract of a call that may change the tag: the call's own, and the word of the flag, which was `before`
+abbrev pub Meets : (Answer → Board → Type 0) → ℕ → Returned → Type 0
+Meets Contract before x = Contract (unpacked (x .result)) (boardOf x) × FlagKept before (x .set)
 
 pub record Returns : Type 1 where
-  -- of a contract that no second outcome meets, as are those of all calls (`NoSecondOutcome`), two returns that meet it are one
+  -- a call that leaves the tag to the caller: of a contract that no second outcome meets, as are those of all calls (`NoSecondOutcome`), two returned
+  -- numbers and boards that meet it are one
+  pub no-second-answer : (Contract : Answer → Board → Type 0) → Determines Contract → (r q : ℕ) (c d : Board)
+      → Contract (unpacked r) c → Contract (unpacked q) d → (r ≡ q) × (c ≡ d)
+  -- a call that may change the tag: two returns are one
   pub no-second-return : (Contract : Answer → Board → Type 0) → Determines Contract → (before : ℕ) (x y : Returned)
       → Meets Contract before x → Meets Contract before y → x ≡ y
   -- a call that leaves the tag, as every refused call does, leaves the caller's two words

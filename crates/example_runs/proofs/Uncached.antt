@@ -1,7 +1,8 @@
 -- The run whose last call brings another U, call by call.
+use Prim.{tt}
 use Prim.Native.Nat.{ℕ}
-use mathlib.Core.Path.{_≡_, sym, ap, _∙_}
-use mathlib.Core.Bool.{true}
+use mathlib.Core.Path.{_≡_, refl, sym, ap, _∙_}
+use mathlib.Core.Bool.{true, false}
 use mathlib.Core.List.{List, [], _∷_}
 use native.Mathlib.Omega.{arith}
 use lib.ListN.{length, getD, set, replicate}
@@ -20,14 +21,14 @@ use Rattle.lines.specs.Holds.{holdsLine, holdsAt, holderFrom, holderOf}
 use Rattle.stores.specs.Stores.{writtenBack, filled, noted, inserted, performedAt}
 use Rattle.reach.specs.Reach.{wayByHome, wayBy, wayOf, unreached, mayWrite}
 use Rattle.visits.specs.Visits.{visited, sweep, visitedAll}
-use Rattle.machine.specs.Boards.{Board, board, noTag, Outcome, outcome}
+use Rattle.machine.specs.Boards.{Board, board, fitsBoard, noTag, Outcome, outcome, refused}
 use Rattle.machine.specs.Refusals.{byTable, alignedTo, isMapped}
 use Rattle.machine.specs.Accesses.{performedOn, accessedBy, accessed, userTable, userAccess}
 use Rattle.machine.specs.Calls as calls
 use Rattle.promises.specs.Plain.{Plain, Given, given, plainUser, plainAttach, plainMap, plainAccess}
 use Rattle.promises.specs.Runs.{attach, map, Call, supervisor, supervise, step, Reply, plainSupervise, plainStep}
-use Rattle.promises.specs.Brought.{Brought, bring, broughtAfter, broughtReplies, plainBroughtAfter, plainBroughtReplies}
-use Rattle.example_runs.specs.Uncached.{ownShape, otherShape, start, plainStart, load, opening, run, UncachedIsTheBoards}
+use Rattle.promises.specs.Brought.{Brought, bring, own, unfit, EachBrings, broughtAfter, broughtReplies, plainBroughtAfter, plainBroughtReplies}
+use Rattle.example_runs.specs.Uncached.{ownShape, otherShape, start, plainStart, load, opening, run, UncachedIsTheBoards, unfitShape, UnfitRefused}
 
 -- ---- the boards of the run
 
@@ -150,4 +151,21 @@ uncached-is-the-boards = record {
   board-number = board-hits;
   plain-number = plain-eight;
   replies-differ = numbers-differ;
+}
+
+-- ---- numbers that don't fit
+
+unfit-held : fitsBoard unfitShape held ≡ false
+unfolding ones onesIn fitsShape
+unfit-held = refl
+
+refused-held : step unfitShape held load ≡ refused held 1
+unfolding byTable userTable userAccess step
+refused-held = rw unfit-held
+
+pub unfit-refused : UnfitRefused
+unfolding EachBrings
+unfit-refused = record {
+  premise-met = (own refl, (own refl, (own refl, (unfit (rw (does-map, does-attach, does-load) unfit-held), (own refl, tt)))));
+  refused-by-1 = rw opened refused-held;
 }

@@ -1,5 +1,5 @@
--- U belongs to the board, though no buffer's length tells it: a run whose last call brings another U, which fits the buffers as well.
--- The two machines part there, so the promises of `promises/specs/Brought.antt` need their premise.
+-- Calls that bring their own numbers. U belongs to the board, though no buffer's length tells it: a run whose last call brings another U, which fits
+-- the buffers as well. The two machines part there, so the promises of `promises/specs/Brought.antt` need their premise. And a run that meets it.
 use Prim.Native.Nat.{ℕ}
 use mathlib.Core.Path.{_≡_}
 use mathlib.Core.Bool.{true, false}
@@ -7,10 +7,10 @@ use mathlib.Core.List.{List, [], _∷_, _++_}
 use Rattle.address.specs.Addresses.{effective}
 use Rattle.board.specs.declared.Shape.{Shape}
 use Rattle.line_bytes.specs.Bytes.{zeros}
-use Rattle.machine.specs.Boards.{Board, fitsBoard, fresh}
+use Rattle.machine.specs.Boards.{Board, fitsBoard, fresh, refused}
 use Rattle.promises.specs.Plain.{Plain}
 use Rattle.promises.specs.Runs.{attach, map, Call, user, supervisor, step, plainStep, plainOf}
-use Rattle.promises.specs.Brought.{Brought, bring, broughtAfter, broughtReplies, plainBroughtAfter, plainBroughtReplies}
+use Rattle.promises.specs.Brought.{Brought, bring, EachBrings, broughtAfter, broughtReplies, plainBroughtAfter, plainBroughtReplies}
 
 -- one frame, one process, one line, and U
 abbrev pub withUncached : ℕ → Shape
@@ -50,3 +50,18 @@ pub record UncachedIsTheBoards : Type 0 where
   pub board-number : step otherShape (broughtAfter start opening) load .answer .number ≡ 0
   pub plain-number : plainStep otherShape (plainBroughtAfter plainStart opening) load .number ≡ 8
   pub replies-differ : broughtReplies start run ≡ plainBroughtReplies plainStart run → ⊥
+
+-- ---- numbers that don't fit
+
+-- two frames, where the board has one
+abbrev pub unfitShape : Shape
+unfitShape = record { frames = 2; uncached = 0; processes = 1; lines = 1 }
+
+-- after the opening a load with these, and the load again with the board's own: a run that meets the premise of the promises
+abbrev pub mixed : List Brought
+mixed = opening ++ (bring unfitShape load ∷ bring ownShape load ∷ [])
+
+pub record UnfitRefused : Type 0 where
+  pub premise-met : EachBrings ownShape start mixed
+  -- the call that brings them is refused by 1, and the board stays as it is
+  pub refused-by-1 : step unfitShape (broughtAfter start opening) load ≡ refused (broughtAfter start opening) 1

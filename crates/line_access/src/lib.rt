@@ -9,6 +9,7 @@ ghost use Rattle.stores.specs.Lent.{storeBefore, storeAfter};
 ghost use Rattle.machine.specs.Refusals.{alignedTo};
 ghost use Rattle.machine.specs.Accesses.{ended, performedOn, memoryAccess};
 ghost use Rattle.line_access.specs.LineAccess.{lineAccess};
+use address::Effective;
 use address::Global;
 use address::LINE_BYTES;
 use address::Physical;
@@ -18,8 +19,8 @@ use board::numbered;
 use reach::Way;
 use stores::Access;
 
-// The width is 1, 2 or 4, and the address a multiple of it.
-pub fn aligned(width: u32, at: u64) -> bool
+// The width is 1, 2 or 4, and the number a multiple of it.
+fn aligned(width: u32, at: u64) -> bool
     ensures { λ r. ⌜ r ≡ alignedTo width at ⌝ }
 {
     if width == 1 {
@@ -32,6 +33,19 @@ pub fn aligned(width: u32, at: u64) -> bool
         return at % 4 == 0;
     }
     false
+}
+
+// The same of an effective address, and of a global one.
+pub fn effective_aligned(width: u32, e: Effective) -> bool
+    ensures { λ r. ⌜ r ≡ alignedTo width (e .0) ⌝ }
+{
+    aligned(width, e.0 as u64)
+}
+
+pub fn global_aligned(width: u32, g: Global) -> bool
+    ensures { λ r. ⌜ r ≡ alignedTo width (g .0) ⌝ }
+{
+    aligned(width, g.0)
 }
 
 // A load or a store on the line of record `i`, which holds it now.
@@ -69,9 +83,6 @@ pub fn line_access(
     requires { ⌜ Sized s (now records) (now cache) (now memory) × (length (now words) ≡ s .frames) × Width (a .width) × (g .0 % lineBytes + a .width ≤ lineBytes) ⌝ }
     ensures { λ r. ⌜ ended r (storeAfter records cache memory) ≡ lineAccess s (now (words .entry)) g user a (storeBefore records cache memory) ⌝ }
 {
-    let name = g.name();
-    let lines = s.lines;
-    let place = lines::place_of(lines, name);
     match reach::way_to(s, words, records, g) {
         Way::Missing => numbered(8),
         Way::Held(i, write) => {
@@ -85,6 +96,9 @@ pub fn line_access(
             if user & (a.store & !write) {
                 return numbered(9);
             }
+            let name = g.name();
+            let lines = s.lines;
+            let place = lines::place_of(lines, name);
             stores::insert(s, records, cache, memory, place, name, line, write);
             let offset = (g.0 % LINE_BYTES) as usize;
             perform_on(records, cache, memory, place, offset, a, 0)

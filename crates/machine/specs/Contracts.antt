@@ -73,9 +73,9 @@ Look s b line cache memory part = (now part ≡ look s b line) × (ptr part ≡ 
 
 -- ---- no second outcome
 
--- two outcomes that meet the contract agree in number, value, mark and every slot, word, record, byte and tag
-abbrev pub Determines : {Board : Type 0} → (Answer → Board → Type 0) → Type 0
-Determines {Board} Meets = (r q : Answer) (c d : Board) → Meets r c → Meets q d → (r ≡ q) × (c ≡ d)
+-- two outcomes that meet the contract agree in number, value, mark and all that is left: every slot, word, record, byte and tag
+abbrev pub Determines : {Left : Type 0} → (Answer → Left → Type 0) → Type 0
+Determines {Left} Meets = (r q : Answer) (c d : Left) → Meets r c → Meets q d → (r ≡ q) × (c ≡ d)
 
 pub record NoSecondOutcome : Type 0 where
   pub user-access : (s : Shape) (b : Board) (process : ℕ) (a : Access) (e : Effective) → Determines (UserAccess s b process a e)

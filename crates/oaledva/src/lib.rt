@@ -4,7 +4,7 @@ ghost use Rattle.address.specs.Addresses.{global};
 ghost use Rattle.board.specs.declared.Pending.{Pending};
 ghost use Rattle.machine.specs.Contracts.{before, after, SupervisorAccess, Attach, Detach, Map, Unmap, Protect, FlushAll, Tag, LoadAndMap, DropTag, LookNumber};
 ghost use Rattle.crossing.specs.Packing.{unpacked, isYes, tagOf, shape, access};
-ghost use Rattle.crossing.specs.Returns.{tagBefore, tagAfter, FlagKept};
+ghost use Rattle.crossing.specs.Returns.{tagBefore, returned, Meets};
 ghost use Rattle.look_place.specs.Lends.{LookPlace};
 use address::Global;
 use board::Pending;
@@ -260,8 +260,7 @@ pub extern "C" fn oaledva_tag(
     name: &mut u64,
     line: u64,
 ) -> u64
-    ensures { λ r. ⌜ Tag (shape frames uncached processes lines) (before slots words records cache memory (tagBefore set name)) line (unpacked r) (after slots words records cache memory (tagAfter set name)) ⌝ }
-    ensures { λ r. ⌜ FlagKept (now (set .entry)) (now (set .exit)) ⌝ }
+    ensures { λ r. ⌜ Meets (Tag (shape frames uncached processes lines) (before slots words records cache memory (tagBefore set name)) line) (now (set .entry)) (returned r slots words records cache memory set name) ⌝ }
 {
     let s = Shape {
         frames: frames,
@@ -295,8 +294,7 @@ pub extern "C" fn oaledva_load_and_map(
     name: &mut u64,
     line: usize,
 ) -> u64
-    ensures { λ r. ⌜ LoadAndMap (shape frames uncached processes lines) (before slots words records cache memory (tagBefore set name)) line (unpacked r) (after slots words records cache memory (tagAfter set name)) ⌝ }
-    ensures { λ r. ⌜ FlagKept (now (set .entry)) (now (set .exit)) ⌝ }
+    ensures { λ r. ⌜ Meets (LoadAndMap (shape frames uncached processes lines) (before slots words records cache memory (tagBefore set name)) line) (now (set .entry)) (returned r slots words records cache memory set name) ⌝ }
 {
     let s = Shape {
         frames: frames,
@@ -329,8 +327,7 @@ pub extern "C" fn oaledva_drop_tag(
     set: &mut u32,
     name: &mut u64,
 ) -> u64
-    ensures { λ r. ⌜ DropTag (shape frames uncached processes lines) (before slots words records cache memory (tagBefore set name)) (unpacked r) (after slots words records cache memory (tagAfter set name)) ⌝ }
-    ensures { λ r. ⌜ FlagKept (now (set .entry)) (now (set .exit)) ⌝ }
+    ensures { λ r. ⌜ Meets (DropTag (shape frames uncached processes lines) (before slots words records cache memory (tagBefore set name))) (now (set .entry)) (returned r slots words records cache memory set name) ⌝ }
 {
     let s = Shape {
         frames: frames,

@@ -296,5 +296,6 @@ brought-demand3 = record {
   apart = brought-same;
   apart-either = brought-either;
   one-copy = λ s b x ks h. let k = brought-after s b ks h in rw k (demand3 .one-copy s b x (calls s b ks));
+  every-valid-holds = λ s b x ks h. let k = brought-after s b ks h in rw k (demand3 .every-valid-holds s b x (calls s b ks));
   one-copy-valid = λ s b x ks h. let k = brought-after s b ks h in rw k (demand3 .one-copy-valid s b x (calls s b ks));
 }

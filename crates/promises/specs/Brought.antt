@@ -15,7 +15,7 @@ use Rattle.machine.specs.Boards.{Board, fitsBoard, Fresh}
 use Rattle.machine.specs.Looks.{lookNumber, look}
 use Rattle.promises.specs.Plain.{Plain, plainLook, plainLookNumber}
 use Rattle.promises.specs.Runs.{Call, user, supervisor, Reply, reply, step, after, replies, plainReply, plainStep, plainOf}
-use Rattle.promises.specs.Sound.{Sound, Shows, LinesOnce, ValidOnce}
+use Rattle.promises.specs.Sound.{Sound, Shows, LinesOnce, ValidHolds, ValidOnce}
 use Rattle.promises.specs.Demand3.{holds, ApartIn, segmentOfPage}
 
 -- ---- what the buffers pin
@@ -158,4 +158,5 @@ pub record BroughtDemand3 : Type 0 where
   pub apart-either : (s : Shape) (b : Board) (ks ls : List Brought) (process : ℕ)
       → TwoRuns s b ks ls process → BroughtApart s b ks process → BroughtApart s b ls process
   pub one-copy : (s : Shape) (b : Board) → Fresh b → (ks : List Brought) → EachBrings s b ks → LinesOnce s (broughtAfter b ks .store)
+  pub every-valid-holds : (s : Shape) (b : Board) → Fresh b → (ks : List Brought) → EachBrings s b ks → ValidHolds s (broughtAfter b ks .store)
   pub one-copy-valid : (s : Shape) (b : Board) → Fresh b → (ks : List Brought) → EachBrings s b ks → ValidOnce (broughtAfter b ks .store)

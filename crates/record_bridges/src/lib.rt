@@ -23,7 +23,7 @@ pub fn protect_two(
     page: u64,
     write: bool,
 ) -> TwoLines
-    ensures { λ r. ⌜ ProtectLent s (lentBoard (now (slots .entry)) (now (words .entry)) ls (now (cache .entry)) (now (memory .entry))) page write (r .answer) (lentBoard (now (slots .entry)) (now (words .exit)) (r .lines) (now (cache .entry)) (now (memory .entry))) ⌝ }
+    ensures { λ r. ⌜ ProtectLent s (lentBoard (now (slots .entry)) (now (words .entry)) ls (now (cache .entry)) (now (memory .entry))) page write (r .answer) (lentBoard (now (slots .exit)) (now (words .exit)) (r .lines) (now (cache .exit)) (now (memory .exit))) ⌝ }
 {
     let mut held = ls;
     let answer = records::protect(s, slots, words, &mut held, cache, memory, page, write);
@@ -42,7 +42,7 @@ pub fn flush_two(
     cache: &[u8],
     memory: &mut [u8],
 ) -> TwoLines
-    ensures { λ r. ⌜ FlushLent s (lentBoard (now (slots .entry)) (now (words .entry)) ls (now (cache .entry)) (now (memory .entry))) (r .answer) (lentBoard (now (slots .entry)) (now (words .entry)) (r .lines) (now (cache .entry)) (now (memory .exit))) ⌝ }
+    ensures { λ r. ⌜ FlushLent s (lentBoard (now (slots .entry)) (now (words .entry)) ls (now (cache .entry)) (now (memory .entry))) (r .answer) (lentBoard (now (slots .exit)) (now (words .exit)) (r .lines) (now (cache .exit)) (now (memory .exit))) ⌝ }
 {
     let mut held = ls;
     let answer = records::flush_all(s, slots, words, &mut held, cache, memory);

@@ -1,7 +1,7 @@
 -- The store's steps as the code takes them, one line in a set.
 use Prim.Native.Nat.{ℕ, _+_, _*_, _-_}
-use mathlib.Core.Path.{_≡_, refl, _∙_}
-use mathlib.Core.Bool.{Bool, true, false, _&&_, cond}
+use mathlib.Core.Path.{_≡_, _∙_}
+use mathlib.Core.Bool.{Bool, true, false}
 use mathlib.Core.List.{List}
 use lib.ListN.{length}
 use Rattle.board.specs.declared.Shape.{Shape}
@@ -25,24 +25,18 @@ sized-kept s r c m r₁ c₁ m₁ z x y w = record {
 }
 
 -- the write-back of a line
-module _ (s : Shape) (r c m : List ℕ) (i : ℕ) (l : Line) (e : l ≡ lineAt r i) where
-  clean : (t u : Bool) → u ≡ false → store r c m ≡ cond (t && u) (store r c (withLine m (l .physical) (lineOf c i))) (store r c m)
-  clean true u g = rw g
-  clean false u g = refl
+module _ (s : Shape) (r c m : List ℕ) (i : ℕ) (l : Line) (t : Bool) (e : l ≡ lineAt r i) (h : t ≡ holdsLine 1 s i l) where
+  pub written-not : t ≡ false → store r c m ≡ writtenBack 1 s i (store r c m)
+  unfolding writtenBack holdsAt
+  written-not f = rw (← e, ← h, f)
 
-  pub written-clean : l .changed ≡ false → store r c m ≡ writtenBack 1 s i (store r c m)
-  unfolding writtenBack
-  written-clean g = rw (← e) (clean (holdsAt 1 s r i) (l .changed) g)
+  pub written-clean : t ≡ true → l .changed ≡ false → store r c m ≡ writtenBack 1 s i (store r c m)
+  unfolding writtenBack holdsAt
+  written-clean f g = rw (← e, ← h, f, g)
 
-  module _ (t : Bool) (h : t ≡ holdsLine 1 s i l) where
-    pub written-not : t ≡ false → store r c m ≡ writtenBack 1 s i (store r c m)
-    unfolding writtenBack holdsAt
-    written-not f = rw (← e, ← h, f)
-
-    pub written-now : (m₁ : List ℕ) → t ≡ true → l .changed ≡ true → m₁ ≡ withLine m (l .physical) (lineOf c i)
-        → store r c m₁ ≡ writtenBack 1 s i (store r c m)
-    unfolding writtenBack holdsAt
-    written-now m₁ f g k = rw (k, ← e, ← h, f, g)
+  pub written-now : (m₁ : List ℕ) → t ≡ true → l .changed ≡ true → m₁ ≡ withLine m (l .physical) (lineOf c i) → store r c m₁ ≡ writtenBack 1 s i (store r c m)
+  unfolding writtenBack holdsAt
+  written-now m₁ f g k = rw (k, ← e, ← h, f, g)
 
 -- a miss
 pub inserted-by : (s : Shape) (r c m : List ℕ) (i name line : ℕ) (write : Bool) (m₁ c₁ r₁ : List ℕ) → store r c m₁ ≡ writtenBack 1 s i (store r c m)

@@ -24,14 +24,14 @@ pub fn write_back(s: Shape, records: &[u64], cache: &[u8], memory: &mut [u8], i:
     ensures { λ _. ⌜ storeAfter records cache memory ≡ writtenBack 1 s i (storeBefore records cache memory) ⌝ }
 {
     let l = lines::line_at(records, i);
-    if l.changed {
-        if lines::holds(s, i, l) {
+    if lines::holds(s, i, l) {
+        if l.changed {
             line_bytes::copy_line(memory, l.physical as usize, cache, i);
         }
     }
 }
 
-// A miss: the old line of record `i` is written back if it has to be, the new one filled and noted.
+// A miss: the old line of record `i` is written back if it has to be, the new one noted and filled.
 pub fn insert(
     s: Shape,
     records: &mut [u64],
@@ -46,7 +46,6 @@ pub fn insert(
     ensures { λ _. ⌜ storeAfter records cache memory ≡ inserted 1 s i name line write (storeBefore records cache memory) ⌝ }
 {
     write_back(s, records, cache, memory, i);
-    line_bytes::copy_line(cache, i, memory, line);
     lines::put_line(
         records,
         i,
@@ -58,6 +57,7 @@ pub fn insert(
             write: write,
         },
     );
+    line_bytes::copy_line(cache, i, memory, line);
 }
 
 // A load or a store at an offset of the line of record `i`.
@@ -68,8 +68,8 @@ pub fn perform(records: &mut [u64], cache: &mut [u8], i: usize, offset: usize, a
     let at = LINE_BYTES * i + offset;
     let width = a.width;
     if a.store {
-        line_bytes::store_bytes(cache, at, width, a.value);
         lines::mark_changed(records, i);
+        line_bytes::store_bytes(cache, at, width, a.value);
         return 0;
     }
     line_bytes::load_bytes(cache, at, width)

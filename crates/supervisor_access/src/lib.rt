@@ -82,7 +82,7 @@ fn supervisor_plan(s: Shape, words: &[u64], tag: Pending, a: Access, g: Global) 
     if must_wait(tag, region) {
         return Plan::Stop(3);
     }
-    if line_access::aligned(a.width, g.0) {
+    if line_access::global_aligned(a.width, g) {
         return region_plan(s, words, g, region);
     }
     Plan::Stop(4)

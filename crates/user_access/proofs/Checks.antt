@@ -1,12 +1,12 @@
 -- The checks of a user access, return by return, and what a passed check says of the width and the address.
 use Prim.Native.Nat.{ℕ, _+_, _*_, _%_, _^_, _<_, _≤_}
 use mathlib.Core.Path.{_≡_, _∙_, sym}
-use mathlib.Core.Bool.{Bool, true, false, not, _&&_}
+use mathlib.Core.Bool.{Bool, true, false, not, _&&_, _||_}
 use mathlib.Core.List.{List}
 use native.Mathlib.Omega.{arith}
 use lib.ListN.{length, getD}
 use lib.Dec.{eqb, leb}
-use borrow.Author.Tests.{leb-true, leb-false, not-false, lt-ltb, le-ltb}
+use borrow.Author.Tests.{leb-true, leb-false, not-false, lt-ltb, le-ltb, lt-leb}
 use Rattle.address.specs.Layout.{firstSegment, lastSegment, kernelStart}
 use Rattle.address.specs.Addresses.{slotOf, globalOf, isKernels, attachable}
 use Rattle.address.specs.declared.Effective.{Effective}
@@ -14,7 +14,7 @@ use Rattle.address.specs.declared.Global.{Global}
 use Rattle.slots.specs.Slots.{slotSegment, slotEmpty, slotWrites}
 use Rattle.board.specs.declared.Shape.{Shape}
 use Rattle.board.specs.declared.Pending.{Pending}
-use Rattle.board.proofs.Bools.{and-right}
+use Rattle.board.proofs.Bools.{and-right, or-false}
 use Rattle.line_bytes.specs.Premises.{Width}
 use Rattle.stores.specs.declared.Access.{Access}
 use Rattle.machine.proofs.Alignments.{Aligned, aligned-inside}
@@ -43,10 +43,14 @@ module _ (word : ℕ) (a : Access) (e : Effective) (t : Bool) (f : t ≡ attacha
   unfolding slotCheck byTable
   slot-goes g h k i = rw (← f, h, k, i)
 
+-- a process that is not refused, and no tag pending
+pub process-below : (processes process : ℕ) (set : Bool) → (leb processes process || set) ≡ false → process < processes
+process-below processes process set o = leb-false processes process (or-false (leb processes process) set o .0)
+
 -- the slot of an address that is not the kernel's is inside the slots of its process
-pub slot-inside : (s : Shape) (slots : List ℕ) (process slot : ℕ) (e : Effective) (k : Bool) → k ≡ isKernels e → k ≡ false → slot ≡ slotOf e
-    → process < s .processes → length slots ≡ s .processes * 512 → process * 512 + slot < length slots
-slot-inside s slots process slot e k f h i p n = omega (arith, leb-false kernelStart (e .0) (sym f ∙ h))
+pub slot-inside : (s : Shape) (slots : List ℕ) (tag : Pending) (process slot : ℕ) (e : Effective) (k : Bool) → k ≡ isKernels e → k ≡ false → slot ≡ slotOf e
+    → (leb (s .processes) process || tag .set) ≡ false → length slots ≡ s .processes * 512 → process * 512 + slot < length slots
+slot-inside s slots tag process slot e k f h i o n = omega (arith, leb-false kernelStart (e .0) (sym f ∙ h), process-below (s .processes) process (tag .set) o)
 
 -- numbers 2 to 5
 module _ (s : Shape) (slots : List ℕ) (tag : Pending) (process : ℕ) (a : Access) (e : Effective) where
@@ -54,12 +58,18 @@ module _ (s : Shape) (slots : List ℕ) (tag : Pending) (process : ℕ) (a : Acc
   unfolding userCheck byTable
   check-process h = rw (le-ltb _ _ h)
 
-  module _ (p : process < s .processes) where
-    pub check-tag : tag .set ≡ true → Refuse 3 ≡ userCheck s slots tag process a e
-    unfolding userCheck byTable
-    check-tag t = rw (lt-ltb _ _ p, t)
+  pub check-tag : (leb (s .processes) process || tag .set) ≡ true → process < s .processes → Refuse 3 ≡ userCheck s slots tag process a e
+  unfolding userCheck byTable
+  check-tag h p = let t : tag .set ≡ true = rw (lt-leb _ _ p) at h in rw (lt-ltb _ _ p, t)
 
-    module _ (t : tag .set ≡ false) (al : Bool) (f : al ≡ alignedTo (a .width) (e .0)) where
+  module _ (o : (leb (s .processes) process || tag .set) ≡ false) where
+    p : process < s .processes
+    p = process-below (s .processes) process (tag .set) o
+
+    t : tag .set ≡ false
+    t = or-false (leb (s .processes) process) (tag .set) o .1
+
+    module _ (al : Bool) (f : al ≡ alignedTo (a .width) (e .0)) where
       pub check-aligned : al ≡ false → Refuse 4 ≡ userCheck s slots tag process a e
       unfolding userCheck byTable
       check-aligned h = rw (lt-ltb _ _ p, t, ← f, h)

@@ -47,13 +47,13 @@ fn user_check(
     requires { ⌜ (length (now slots) ≡ s .processes * processSlots) × (s .processes ≤ maxProcesses) ⌝ }
     ensures { λ r. ⌜ r ≡ userCheck s (now (slots .entry)) tag process a e ⌝ }
 {
-    if process >= s.processes {
-        return Check::Refuse(2);
-    }
-    if tag.set {
+    if (process >= s.processes) | tag.set {
+        if process >= s.processes {
+            return Check::Refuse(2);
+        }
         return Check::Refuse(3);
     }
-    if line_access::aligned(a.width, e.0 as u64) {
+    if line_access::effective_aligned(a.width, e) {
         if e.is_kernels() {
             return Check::Refuse(5);
         }

@@ -8,11 +8,12 @@ use Rattle.line_access.proofs.line_access.Tie as tie
 pub line-access-spec : {M : Type 1} → statement M
 line-access-spec =
     tie.close (tie.spec
-    (search needs) (search needs) (search needs) (search needs) (search needs) (search needs) (search needs) (search needs)
+    (search needs) (search needs) (search needs) (search needs) (search needs) (search needs)
     (λ c. search (needs, held-reads))
     (λ c κs. search (needs, held-record, held-bytes))
     (search needs) (search needs) (search needs)
     (λ c. search (needs, memory-reads))
+    (search needs) (search needs)
     (λ c κs. search (needs, way-inside))
     (search needs) (search needs)
     (λ c. search (needs, line-missing))
@@ -21,6 +22,6 @@ line-access-spec =
     (search needs) (search needs) (search needs)
     (λ c.
     let d = c .before .before .before .before .before .before .before .before .before .before .before .before .before .before .before in
-    let e = d .before .before .before .before .before .before .before .before .before in
-    memory-inserted _ _ _ _ _ _ _ _ _ (e .way-to .ensures) _ _ (d .before .before .before .before .before .before .before .line .given .1) _ _ _ _ _ _ _ _ (d .before .before .before .before .if2 .left)
-    (e .before .before .before .name .ensures) (e .before .before .place-of .ensures .0) (d .insert .ensures) (c .before .before .before .before .perform-on2 .ensures)))
+    let e = d .before .before .before .before .before .before in
+    memory-inserted _ _ _ _ _ _ _ _ _ (e .before .before .before .before .before .way-to .ensures) _ _ (e .before .before .before .line .given .1) _ _ _ _ _ _ _ _ (e .if2 .left)
+    (d .before .before .before .before .before .name .ensures) (d .before .before .before .before .place-of .ensures .0) (d .insert .ensures) (c .before .before .before .before .perform-on2 .ensures)))

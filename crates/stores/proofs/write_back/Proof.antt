@@ -10,8 +10,8 @@ pub write-back-spec : {M : Type 1} → statement M
 write-back-spec =
     tie.close (tie.spec
     (search needs) (search needs)
-    (λ c κs. omega (arith, holds-inside _ _ _ _ (c .before .before .holds .ensures) (c .before .if2 .taken)))
+    (λ c κs. omega (arith, holds-inside _ _ _ _ (c .before .before .before .holds .ensures) (c .before .before .if1 .taken)))
     (search needs)
     (λ c. search (needs, written-now))
-    (λ c. search (needs, written-not))
-    (λ c. search (needs, written-clean)))
+    (λ c. search (needs, written-clean))
+    (λ c. search (needs, written-not)))
