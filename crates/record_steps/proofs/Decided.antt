@@ -23,7 +23,8 @@ use Rattle.page_calls.specs.Checks.{pageFrame}
 use Rattle.page_calls.specs.declared.Frame.{Frame}
 use Rattle.page_calls.specs.declared.Frame.the-variants.{Stop, On}
 use Rattle.page_calls.proofs.Pages.{byFrame}
-use Rattle.record_steps.specs.Lent.{Placed, LentOutcome, lentBoard, lentOutcome, linesVisited, flushedMemory, protectedWords, protectLent, flushLent, Worded, worded, wordChanged, flushAnswer, turnsWhen}
+use Rattle.record_steps.specs.Lent.{LentOutcome, lentBoard, lentOutcome, linesVisited, flushedMemory, protectedWords, protectLent, flushLent}
+use Rattle.record_steps.specs.Checks.{Placed, Worded, worded, wordChanged, flushAnswer, turnsWhen}
 use Rattle.record_steps.specs.Contracts.{ProtectLent, FlushLent}
 
 -- ---- the turns

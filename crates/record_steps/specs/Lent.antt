@@ -1,14 +1,11 @@
 -- 01, "The board": each line has a record. Here the records are a list of them, line 0 first, and protect and flush all are said on a board with that list.
 -- What a line holds, which lines a visit is for, what the bytes become and what the tables ask are the board's own definitions, with one line in a set.
-use Prim.Native.Nat.{ℕ, suc, _*_, _≤_, _<_}
-use mathlib.Core.Path.{_≡_}
+use Prim.Native.Nat.{ℕ, suc, _*_}
 use mathlib.Core.Bool.{Bool, not, _&&_, cond}
 use mathlib.Core.List.{List, [], _∷_}
-use lib.Count.{ones}
 use lib.ListN.{length, set}
-use Rattle.address.specs.Layout.{lineBytes, pageBytes}
 use Rattle.board.specs.Answers.{answer}
-use Rattle.board.specs.Shapes.{fitsShape, maxFrames, recordWords}
+use Rattle.board.specs.Shapes.{fitsShape, recordWords}
 use Rattle.board.specs.declared.Answer.{Answer}
 use Rattle.board.specs.declared.Shape.{Shape}
 use Rattle.pages.specs.Pages.{frameWord, mappedTo}
@@ -19,7 +16,7 @@ use Rattle.visits.specs.Visits.{selects}
 use Rattle.lines.specs.declared.Line.{Line}
 use Rattle.visits.specs.declared.Visit.{Visit}
 use Rattle.visits.specs.declared.Visit.the-variants.{Map, Unmap, Protect, Flush}
-use Rattle.machine.specs.Refusals.{Row, row, byTable, lowest}
+use Rattle.machine.specs.Refusals.{Row, row, byTable}
 use Rattle.machine.specs.Calls.{foundFrame, pageRows}
 
 -- ---- what a visit makes of the lines
@@ -105,33 +102,3 @@ unfoldable pub flushLent : Shape → LentBoard → LentOutcome
 flushLent s b =
     byTable (lentRefused b) (lentFlushTable s (length (b .slots)) (length (b .words)) (length (b .lines)) (length (b .cache)) (length (b .memory)))
     (lentDone (lentBoard (b .slots) (b .words) (linesVisited s Flush 0 (b .lines)) (b .cache) (flushedMemory s 0 (b .lines) (b .cache) (b .memory))))
-
--- ---- what the code inside decides and asks; no call's definition needs these
-
--- an answer and the frame words: what protect has before it walks the lines
-pub record Worded : Type 0 where
-  pub answer : Answer
-  pub words : List ℕ
-
-abbrev pub worded : Answer → List ℕ → Worded
-worded a words = record { answer = a; words = words }
-
-unfoldable pub wordChanged : Shape → ℕ → List ℕ → ℕ → ℕ → ℕ → ℕ → Bool → Worded
-wordChanged s slots words lines cache memory page write =
-    byTable (λ n. worded (answer n 0 0) words) (lentPageTable s slots words lines cache memory page) (worded (answer 0 0 0) (protectedWords s words page write))
-
--- flush all's answer
-abbrev pub flushAnswer : Shape → ℕ → ℕ → ℕ → ℕ → ℕ → Answer
-flushAnswer s slots words lines cache memory = answer (lowest (lentFlushTable s slots words lines cache memory)) 0 0
-
--- the lines to walk: all or none
-abbrev pub turnsWhen : Bool → ℕ → ℕ
-turnsWhen done lines = cond done lines 0
-
--- line i stands on an accepted board, and its cache and memory have their lengths
-pub record Placed (s : Shape) (i cache memory : ℕ) : Type 0 where
-  pub one : ones (s .lines) ≡ 1
-  pub frames-max : s .frames ≤ maxFrames
-  pub inside : i < s .lines
-  pub cache-is : cache ≡ lineBytes * s .lines
-  pub memory-is : memory ≡ pageBytes * s .frames

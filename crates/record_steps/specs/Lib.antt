@@ -1,3 +1,4 @@
 pub mod Lent
 pub mod Link
 pub mod Contracts
+pub mod Checks

@@ -9,7 +9,8 @@ use lib.ListN.{length, getD, set}
 use Rattle.board.specs.declared.Shape.{Shape}
 use Rattle.lines.specs.declared.Line.{Line}
 use Rattle.visits.specs.declared.Visit.{Visit}
-use Rattle.record_steps.specs.Lent.{turnsWhen, lineVisited, linesVisited, lineFlushed, flushedMemory}
+use Rattle.record_steps.specs.Lent.{lineVisited, linesVisited, lineFlushed, flushedMemory}
+use Rattle.record_steps.specs.Checks.{turnsWhen}
 use Rattle.record_steps.proofs.Single.{length-flushed}
 
 pub less-or-same : (i n : ℕ) → i ≤ n → (i < n) ⊎ (i ≡ n)

@@ -34,7 +34,7 @@ use Rattle.board.proofs.Shape.Laws as S′
 use Rattle.lines.specs.declared.Line.{Line}
 use Rattle.lines.proofs.Line as L
 use Rattle.lines.proofs.Line.Laws as L′
-use Rattle.record_steps.specs.Lent.{turnsWhen}
+use Rattle.record_steps.specs.Checks.{turnsWhen}
 use Rattle.record_steps.proofs.turns as turns
 
 abbrev pub word : Ty

@@ -61,7 +61,8 @@ use Rattle.lines.specs.declared.Line.{Line}
 use Rattle.visits.specs.declared.Visit.the-variants.{Flush}
 use Rattle.lines.proofs.Line as L
 use Rattle.lines.proofs.Line.Laws as L′
-use Rattle.record_steps.specs.Lent.{Placed, lineVisited, linesVisited, lineFlushed, flushedMemory, flushAnswer, turnsWhen}
+use Rattle.record_steps.specs.Lent.{lineVisited, linesVisited, lineFlushed, flushedMemory}
+use Rattle.record_steps.specs.Checks.{Placed, flushAnswer, turnsWhen}
 use Rattle.record_steps.proofs.Decided.{turns-within, turn-done, number-fits, fit-placed, flush-met}
 use Rattle.records.proofs.Again.{LentAgain, lends-again, comes-back}
 use Rattle.records.proofs.Upto.{less-or-same, visitedUpto, upto-length, upto-none, upto-set, upto-turns, memoryUpto, memory-length, memory-none, memory-more, memory-turns}

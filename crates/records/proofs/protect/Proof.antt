@@ -63,7 +63,8 @@ use Rattle.visits.specs.declared.Visit.{Visit}
 use Rattle.visits.specs.declared.Visit.the-variants.{Protect}
 use Rattle.lines.proofs.Line as L
 use Rattle.lines.proofs.Line.Laws as L′
-use Rattle.record_steps.specs.Lent.{Placed, linesVisited, lineVisited, worded, wordChanged, turnsWhen}
+use Rattle.record_steps.specs.Lent.{linesVisited, lineVisited}
+use Rattle.record_steps.specs.Checks.{Placed, worded, wordChanged, turnsWhen}
 use Rattle.record_steps.proofs.Decided.{turns-within, turn-done, word-fits, fit-placed, protect-met}
 use Rattle.records.proofs.Upto.{less-or-same, visitedUpto, upto-length, upto-none, upto-set, upto-turns}
 use Rattle.records.proofs.Values.{word, vals, svals, avals, buffer, none, told, told-answer, word-typed, packs, Turns, turns-said, to-turns, turns-goes}
