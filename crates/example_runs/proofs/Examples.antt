@@ -44,43 +44,43 @@ use Rattle.example_runs.proofs.Chains.{Does, Ran, ended, _then_, kept, 
 
 -- ---- the memory of the runs
 
-length-memory : length memory ≡ 16384
+pub length-memory : length memory ≡ 16384
 unfolding memory
 length-memory = length-replicate {A = ℕ} 16384 255
 
 module _ (m : List ℕ) (fits : length m ≡ 16384) (p : ℕ) (inside : p < 1024) where
   -- a line of a frame that was filled with zeros, and of another frame
-  zeroed-here : (f : ℕ) → p / 256 ≡ f → lineOf (zeroedFrame m f) p ≡ lineWith 0
+  pub zeroed-here : (f : ℕ) → p / 256 ≡ f → lineOf (zeroedFrame m f) p ≡ lineWith 0
   unfolding lineOf part
   zeroed-here f h =
       line-ext (zeroedFrame m f) (lineWith 0) p 0 (omega (arith, length-zeroed m f)) (omega arith)
       (λ k g. zeroed-line-in m f p k h g (omega arith) ∙ sym (zeros-at 16 (0 + k)))
 
-  zeroed-elsewhere : (f : ℕ) → p / 256 ≢ f → lineOf (zeroedFrame m f) p ≡ lineOf m p
+  pub zeroed-elsewhere : (f : ℕ) → p / 256 ≢ f → lineOf (zeroedFrame m f) p ≡ lineOf m p
   zeroed-elsewhere f h = line-same (zeroedFrame m f) m p (length-zeroed m f) (λ k g. zeroed-line-out m f p k h g)
 
   -- a line that was written back, and another line
-  written-here : (value : ℕ) → lineOf (withLine m p (lineWith value)) p ≡ lineWith value
+  pub written-here : (value : ℕ) → lineOf (withLine m p (lineWith value)) p ≡ lineWith value
   unfolding lineOf withLine part
   written-here value =
       line-ext (withLine m p (lineWith value)) (lineWith value) p 0 (omega (arith, length-line m p (lineWith value))) (omega arith)
       (λ k g. copied-at m (lineWith value) p 0 (omega arith) (omega arith) k g)
 
-  written-elsewhere : (value q : ℕ) → p ≢ q → lineOf (withLine m q (lineWith value)) p ≡ lineOf m p
+  pub written-elsewhere : (value q : ℕ) → p ≢ q → lineOf (withLine m q (lineWith value)) p ≡ lineOf m p
   unfolding lineOf part
   written-elsewhere value q h = line-with-other m (lineWith value) q 0 p h
 
 -- ---- the boards of the runs
 
 -- slots, frame words, records, cache and memory, nothing pending
-abbrev untagged : List ℕ → List ℕ → List ℕ → List ℕ → List ℕ → Board
+abbrev pub untagged : List ℕ → List ℕ → List ℕ → List ℕ → List ℕ → Board
 untagged slots words records cache m = board slots words records cache m noTag
 
 -- the slots: nothing attached; segment 2048 by process 0; by process 1 too; and segment 2049 by process 1
-abbrev slots0 : List ℕ
+abbrev pub slots0 : List ℕ
 slots0 = replicate 1024 0
 
-abbrev slots1 : List ℕ
+abbrev pub slots1 : List ℕ
 slots1 = set slots0 0 (slotWord 2048 true)
 
 abbrev slots2 : Bool → List ℕ
@@ -90,25 +90,25 @@ abbrev slots3 : Bool → List ℕ
 slots3 write = set (slots2 write) 513 (slotWord 2049 true)
 
 -- the frame words: one page mapped, and both
-abbrev words1 : List ℕ
+abbrev pub words1 : List ℕ
 words1 = 0 ∷ frameWord 0x200000 true ∷ 0 ∷ 0 ∷ []
 
 abbrev words2 : List ℕ
 words2 = 0 ∷ frameWord 0x200000 true ∷ frameWord 0x200400 true ∷ 0 ∷ []
 
 -- no line held
-abbrev empty : List ℕ → List ℕ → List ℕ → Board
+abbrev pub empty : List ℕ → List ℕ → List ℕ → Board
 empty slots words m = untagged slots words (0 ∷ 0 ∷ 0 ∷ 0 ∷ []) (lineWith 0 ++ lineWith 0) m
 
 -- memory with one frame filled with zeros, and with both
-abbrev memory1 : List ℕ
+abbrev pub memory1 : List ℕ
 memory1 = zeroedFrame memory 1
 
-abbrev memory2 : List ℕ
+abbrev pub memory2 : List ℕ
 memory2 = zeroedFrame memory1 2
 
 -- the line of process 0 with the 50, the line of process 1 with the 7, and the one with the 9
-abbrev ours : Line
+abbrev pub ours : Line
 ours = newLine 0x20000000 256 true
 
 abbrev others : Line
@@ -132,7 +132,7 @@ last m = holding false others 7 m
 
 -- ---- the calls of the runs
 
-does-map-first : Does shape start (supervisor (map 0x200000 1 true)) (answer 0 0 0) (empty slots0 words1 memory1)
+pub does-map-first : Does shape start (supervisor (map 0x200000 1 true)) (answer 0 0 0) (empty slots0 words1 memory1)
 unfolding ones onesIn fitsShape lowestFrom lowestFrame mappedTo zeros lineAt holdsLine holdsAt visited sweep visitedAll byTable isMapped mapPage mapped supervise step
 does-map-first = record { does = rw length-memory }
 
@@ -223,16 +223,16 @@ module _ (m : List ℕ) (fits : length m ≡ 16384) where
 -- ---- the runs
 
 -- the memory of run A: the zeros of the maps, then the 50, then the 7
-memory1-fits : length memory1 ≡ 16384
+pub memory1-fits : length memory1 ≡ 16384
 memory1-fits = length-zeroed memory 1 ∙ length-memory
 
-memory2-fits : length memory2 ≡ 16384
+pub memory2-fits : length memory2 ≡ 16384
 memory2-fits = length-zeroed memory1 2 ∙ memory1-fits
 
-abbrev memory3 : List ℕ
+abbrev pub memory3 : List ℕ
 memory3 = withLine memory2 256 (lineWith 50)
 
-memory3-fits : length memory3 ≡ 16384
+pub memory3-fits : length memory3 ≡ 16384
 memory3-fits = length-line memory2 256 (lineWith 50) ∙ memory2-fits
 
 abbrev memory4 : List ℕ
@@ -241,13 +241,13 @@ memory4 = withLine memory3 512 (lineWith 7)
 memory4-fits : length memory4 ≡ 16384
 memory4-fits = length-line memory3 512 (lineWith 7) ∙ memory3-fits
 
-memory2-first : lineOf memory2 256 ≡ lineWith 0
+pub memory2-first : lineOf memory2 256 ≡ lineWith 0
 memory2-first = zeroed-elsewhere memory1 memory1-fits 256 (omega arith) 2 (omega arith) ∙ zeroed-here memory length-memory 256 (omega arith) 1 refl
 
-memory2-other : (p : ℕ) → p < 1024 → p / 256 ≡ 2 → lineOf memory2 p ≡ lineWith 0
+pub memory2-other : (p : ℕ) → p < 1024 → p / 256 ≡ 2 → lineOf memory2 p ≡ lineWith 0
 memory2-other p b h = zeroed-here memory1 memory1-fits p b 2 h
 
-memory3-first : lineOf memory3 256 ≡ lineWith 50
+pub memory3-first : lineOf memory3 256 ≡ lineWith 50
 memory3-first = written-here memory2 memory2-fits 256 (omega arith) 50
 
 memory3-other : lineOf memory3 512 ≡ lineWith 0
@@ -348,7 +348,7 @@ writes-other = some-slot (wordWritesTo 2049) (slots3 false) 1 1 512 (omega arith
 
 -- ---- the examples
 
-fresh-start : Fresh start
+pub fresh-start : Fresh start
 fresh-start = fresh-zeros shape (zeros 32) memory
 
 pub example1 : Example1

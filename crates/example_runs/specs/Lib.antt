@@ -1,3 +1,4 @@
 pub mod Examples
 pub mod Copies
 pub mod Uncached
+pub mod Wrong

@@ -1,0 +1,189 @@
+-- The runs in which the wrong machines break demand 2, call by call, beside the board's.
+use Prim.Native.Nat.{ℕ}
+use mathlib.Core.Path.{_≡_, refl, sym, ap, _∙_}
+use mathlib.Core.Bool.{true}
+use mathlib.Core.List.{List, [], _∷_, _++_}
+use native.Mathlib.Omega.{arith}
+use lib.Count.{ones, onesIn}
+use lib.ListN.{length, getD, set}
+use Rattle.board.specs.Answers.{answer}
+use Rattle.board.specs.Lists.{part, splice}
+use Rattle.board.specs.Shapes.{fitsShape}
+use Rattle.board.specs.declared.Shape.{Shape}
+use Rattle.board.specs.declared.Answer.{Answer}
+use Rattle.slots.specs.Slots.{slotWord}
+use Rattle.pages.specs.Pages.{frameWord, lowestFrom, lowestFrame, mappedTo, directHome, homeBy, homeOf}
+use Rattle.line_bytes.specs.Bytes.{number, digits, stored, lineOf, withLine, zeroedFrame}
+use Rattle.line_bytes.proofs.Bytes.{length-line}
+use Rattle.lines.specs.Records.{wordOf, lineAt, putLine, changedLine}
+use Rattle.lines.specs.declared.Line.{Line}
+use Rattle.lines.specs.Holds.{holdsLine, holdsAt, holderFrom, holderOf}
+use Rattle.stores.specs.Stores.{writtenBack, filled, noted, dropped, inserted, performedAt}
+use Rattle.reach.specs.Reach.{wayByHome, wayBy, wayOf, unreached, mayWrite}
+use Rattle.visits.specs.Visits.{selects, treated, visited, sweep, visitedAll}
+use Rattle.machine.specs.Boards.{Board, outcome}
+use Rattle.machine.specs.Refusals.{byTable, alignedTo, isMapped}
+use Rattle.machine.specs.Accesses.{performedOn, accessedBy, accessed, userTable, userAccess}
+use Rattle.machine.specs.Calls as calls
+use Rattle.promises.specs.Runs.{Supervisor, access, attach, detach, map, unmap, protect, flushAll, tag, loadAndMap, dropTag, Call, user, supervisor, supervise, step, Reply, reply, replies, plainReplies, plainOf}
+use Rattle.promises.proofs.Demand2.{demand2}
+use Rattle.example_runs.specs.Examples.{shape, memory, start, load, save, gets, lineWith}
+use Rattle.example_runs.specs.Wrong.{Parts, superviseBy, stepBy, repliesBy, rightParts, RightMeets, Breaks, opening, opened, unmapKeepsLines, UnmapBreaks}
+use Rattle.example_runs.proofs.Examples.{untagged, slots0, slots1, words1, empty, memory1, memory2, ours, does-map-first, memory1-fits, memory2-fits, memory2-first, fresh-start}
+use Rattle.example_runs.proofs.Chains.{Does}
+
+-- ---- the machine with the board's own calls
+
+right-supervises : (s : Shape) (b : Board) (c : Supervisor) → superviseBy rightParts s b c ≡ supervise s b c
+unfolding superviseBy supervise
+right-supervises s b (access a g) = refl
+right-supervises s b (attach process slot segment write) = refl
+right-supervises s b (detach process slot) = refl
+right-supervises s b (map page frame write) = refl
+right-supervises s b (unmap page) = refl
+right-supervises s b (protect page write) = refl
+right-supervises s b flushAll = refl
+right-supervises s b (tag name) = refl
+right-supervises s b (loadAndMap line) = refl
+right-supervises s b dropTag = refl
+
+right-steps : (s : Shape) (b : Board) (k : Call) → stepBy rightParts s b k ≡ step s b k
+unfolding stepBy step
+right-steps s b (user process a e) = refl
+right-steps s b (supervisor c) = right-supervises s b c
+
+right-replies : (s : Shape) (b : Board) (ks : List Call) → repliesBy rightParts s b ks ≡ replies s b ks
+unfolding repliesBy replies
+right-replies s b [] = refl
+right-replies s b (k ∷ ks) = rw (right-steps s b k, right-replies s (step s b k .after) ks)
+
+pub right-meets : RightMeets
+right-meets s b fresh ks = right-replies s b ks ∙ demand2 s b fresh ks .same-replies
+
+-- ---- calls, one after the other
+
+record DoesBy (p : Parts) (b : Board) (k : Call) (a : Answer) (c : Board) : Type 0 where
+  does : stepBy p shape b k ≡ outcome a c
+
+infixr 5 _next_
+data RanBy (p : Parts) : Board → List Call → List Reply → Type 0 where
+  ended : {b : Board} → RanBy p b [] []
+  _next_ : {b c : Board} {k : Call} {ks : List Call} {a : Answer} {l : List Reply} → DoesBy p b k a c → RanBy p c ks l → RanBy p b (k ∷ ks) (reply a ∷ l)
+
+ran-replies-by : {p : Parts} {b : Board} {ks : List Call} {l : List Reply} → RanBy p b ks l → repliesBy p shape b ks ≡ l
+unfolding repliesBy
+ran-replies-by ended = refl
+ran-replies-by (x next r) = let e = x .does in rw (e, ran-replies-by r)
+
+-- a call that is the board's
+as-board : {p : Parts} {b c : Board} {k : Call} {a : Answer} → stepBy p shape b k ≡ step shape b k → Does shape b k a c → DoesBy p b k a c
+as-board e x = record { does = e ∙ x .does }
+
+right-does : {b c : Board} {k : Call} {a : Answer} → Does shape b k a c → DoesBy rightParts b k a c
+right-does {b} {c} {k} x = as-board (right-steps shape b k) x
+
+-- two lists of replies whose values differ somewhere
+values-apart : {l m : List Reply} (i : ℕ) → (getD l i (gets 0 0) .value ≡ getD m i (gets 0 0) .value → ⊥) → l ≡ m → ⊥
+values-apart i differ e = differ (ap (λ (x : List Reply). getD x i (gets 0 0) .value) e)
+
+-- a run in which the two part
+breaks : {p : Parts} {ks : List Call} {wrong right : List Reply} → RanBy p start ks wrong → RanBy rightParts start ks right
+    → (wrong ≡ right → ⊥) → Breaks p ks wrong right
+breaks {p} {ks} {wrong} {right} w r differ = record {
+  wrong-replies = ran-replies-by w;
+  board-replies = by-board;
+  plain-replies = by-plain;
+  broken = λ gives. differ (sym (ran-replies-by w) ∙ gives shape start fresh-start ks ∙ by-plain);
+}
+  where
+    by-board : replies shape start ks ≡ right
+    by-board = sym (right-replies shape start ks) ∙ ran-replies-by r
+
+    by-plain : plainReplies shape (plainOf start memory) ks ≡ right
+    by-plain = sym (demand2 shape start fresh-start ks .same-replies) ∙ by-board
+
+-- ---- the opening
+
+-- segment 3072 by process 0 too
+abbrev slots2 : List ℕ
+slots2 = set slots1 1 (slotWord 3072 true)
+
+-- the word of frame 1, and page 0x300000 mapped to frame 2
+abbrev wordsWith : ℕ → List ℕ
+wordsWith word = 0 ∷ word ∷ frameWord 0x300000 true ∷ 0 ∷ []
+
+abbrev words2 : List ℕ
+words2 = wordsWith (frameWord 0x200000 true)
+
+-- by the word of frame 1: record 0 holds a line with this value in it; record 1 none
+abbrev holding : ℕ → Line → ℕ → List ℕ → Board
+holding word l value m = untagged slots2 (wordsWith word) (l .name ∷ wordOf l ∷ 0 ∷ 0 ∷ []) (lineWith value ++ lineWith 0) m
+
+-- after the opening: the 50 is held, changed
+abbrev stored50 : Board
+stored50 = holding (frameWord 0x200000 true) (changedLine ours) 50 memory2
+
+module _ (m : List ℕ) (fits : length m ≡ 16384) where
+  does-map-second : Does shape (empty slots0 words1 m) (supervisor (map 0x300000 2 true)) (answer 0 0 0) (empty slots0 words2 (zeroedFrame m 2))
+  unfolding ones onesIn fitsShape lowestFrom lowestFrame mappedTo lineAt holdsLine holdsAt visited sweep visitedAll byTable isMapped calls.mapPage calls.mapped supervise step
+  does-map-second = record { does = rw fits }
+
+  does-attach-first : Does shape (empty slots0 words2 m) (supervisor (attach 0 0 2048 true)) (answer 0 0 0) (empty slots1 words2 m)
+  unfolding ones onesIn fitsShape byTable calls.attach supervise step
+  does-attach-first = record { does = rw fits }
+
+  does-attach-second : Does shape (empty slots1 words2 m) (supervisor (attach 0 1 3072 true)) (answer 0 0 0) (empty slots2 words2 m)
+  unfolding ones onesIn fitsShape byTable calls.attach supervise step
+  does-attach-second = record { does = rw fits }
+
+  does-save : lineOf m 256 ≡ lineWith 0
+      → Does shape (empty slots2 words2 m) (save 0 4 0 50) (answer 0 0 0) (holding (frameWord 0x200000 true) (changedLine ours) 50 m)
+  unfolding ones onesIn part splice fitsShape lowestFrom lowestFrame mappedTo homeBy homeOf digits stored withLine lineAt putLine holdsLine holdsAt holderFrom holderOf writtenBack filled noted inserted performedAt wayByHome wayBy wayOf unreached mayWrite byTable alignedTo performedOn accessedBy accessed userTable userAccess step
+  does-save h = record { does = rw (fits, h) }
+
+-- the opening, of a machine whose map and attach are the board's and that does the store
+ran-opening : {p : Parts} {ks : List Call} {l : List Reply} → p .maps ≡ calls.mapPage → DoesBy p (empty slots2 words2 memory2) (save 0 4 0 50) (answer 0 0 0) stored50
+    → RanBy p stored50 ks l → RanBy p start (opening ks) (opened l)
+unfolding superviseBy stepBy supervise step
+ran-opening maps saves r =
+    as-board (rw maps) does-map-first next as-board (rw maps) (does-map-second memory1 memory1-fits)
+    next as-board refl (does-attach-first memory2 memory2-fits) next as-board refl (does-attach-second memory2 memory2-fits) next saves next r
+
+-- the board's own
+right-opening : {ks : List Call} {l : List Reply} → RanBy rightParts stored50 ks l → RanBy rightParts start (opening ks) (opened l)
+right-opening r = ran-opening refl (right-does (does-save memory2 memory2-fits memory2-first)) r
+
+-- ---- unmap without dropping lines
+
+-- the board after its unmap: the word is 0, no line is held, and the 50 is in memory
+abbrev unmapped : List ℕ → Board
+unmapped m = untagged slots2 (wordsWith 0) (0 ∷ 0 ∷ 0 ∷ 0 ∷ []) (lineWith 50 ++ lineWith 0) (withLine m 256 (lineWith 50))
+
+module _ (m : List ℕ) (fits : length m ≡ 16384) where
+  does-unmap : Does shape (holding (frameWord 0x200000 true) (changedLine ours) 50 m) (supervisor (unmap 0x200000)) (answer 0 0 0) (unmapped m)
+  unfolding ones onesIn part fitsShape lowestFrom lowestFrame mappedTo lineOf lineAt putLine holdsLine holdsAt writtenBack noted dropped selects treated visited sweep visitedAll byTable isMapped calls.foundFrame calls.unmapped calls.unmap supervise step
+  does-unmap = record { does = rw fits }
+
+  does-refuse-unmapped : Does shape (unmapped m) (load 0 3) (answer 8 0 0) (unmapped m)
+  unfolding ones onesIn fitsShape lowestFrom lowestFrame mappedTo directHome homeBy homeOf lineAt holdsLine holdsAt holderFrom holderOf wayByHome wayBy wayOf unreached byTable alignedTo userTable userAccess step
+  does-refuse-unmapped = record { does = rw (length-line m 256 (lineWith 50), fits) }
+
+  -- a held line is loaded from, whatever the frame word says
+  does-hit : (word : ℕ) → Does shape (holding word (changedLine ours) 50 m) (load 0 3) (answer 0 50 1) (holding word (changedLine ours) 50 m)
+  unfolding ones onesIn fitsShape number lineAt holdsLine holdsAt holderFrom holderOf performedAt wayBy wayOf unreached mayWrite byTable alignedTo performedOn accessedBy accessed userTable userAccess step
+  does-hit word = record { does = rw fits }
+
+  does-unmap-wrong : DoesBy unmapKeepsLines (holding (frameWord 0x200000 true) (changedLine ours) 50 m) (supervisor (unmap 0x200000)) (answer 0 0 0)
+      (holding 0 (changedLine ours) 50 m)
+  unfolding superviseBy stepBy supervise step
+  does-unmap-wrong = let e = does-unmap .does in record { does = rw e }
+
+pub unmap-breaks : UnmapBreaks
+unfolding stepBy step
+unmap-breaks =
+    breaks
+    (ran-opening refl (as-board refl (does-save memory2 memory2-fits memory2-first))
+    (does-unmap-wrong memory2 memory2-fits next as-board refl (does-hit memory2 memory2-fits 0) next ended))
+    (right-opening
+    (right-does (does-unmap memory2 memory2-fits) next right-does (does-refuse-unmapped memory2 memory2-fits) next ended))
+    (values-apart 6 (omega arith))

@@ -1,0 +1,91 @@
+-- Wrong machines that look fine, and for each a run from a fresh board in which it doesn't give the plain machine's replies, as the board does.
+-- They are those of `promises/must-fail`, where the proof of demand 2 no longer fits: here the demand itself is broken.
+use Prim.Native.Nat.{ℕ}
+use mathlib.Core.Path.{_≡_}
+use mathlib.Core.Bool.{Bool, true}
+use mathlib.Core.List.{List, [], _∷_}
+use Rattle.address.specs.declared.Effective.{Effective}
+use Rattle.board.specs.declared.Shape.{Shape}
+use Rattle.stores.specs.declared.Access.{Access}
+use Rattle.machine.specs.Boards.{Board, Fresh, Outcome, outcome, withStore}
+use Rattle.machine.specs.Accesses.{userAccess}
+use Rattle.machine.specs.Calls as calls
+use Rattle.promises.specs.Runs.{Supervisor, access, attach, detach, map, unmap, protect, flushAll, tag, loadAndMap, dropTag, Call, user, supervisor, supervise, Reply, reply, replies, plainReplies, plainOf}
+use Rattle.example_runs.specs.Examples.{shape, memory, start, load, save, gets}
+
+-- ---- machines, and the demand
+
+-- the calls that one wrong machine or another gets wrong
+pub record Parts : Type 0 where
+  pub accesses : Shape → Board → ℕ → Access → Effective → Outcome
+  pub maps : Shape → Board → ℕ → ℕ → Bool → Outcome
+  pub unmaps : Shape → Board → ℕ → Outcome
+  pub protects : Shape → Board → ℕ → Bool → Outcome
+
+-- the machine with these calls; its other calls are the board's
+unfoldable pub superviseBy : Parts → Shape → Board → Supervisor → Outcome
+superviseBy p s b (access a g) = supervise s b (access a g)
+superviseBy p s b (attach process slot segment write) = supervise s b (attach process slot segment write)
+superviseBy p s b (detach process slot) = supervise s b (detach process slot)
+superviseBy p s b (map page frame write) = p .maps s b page frame write
+superviseBy p s b (unmap page) = p .unmaps s b page
+superviseBy p s b (protect page write) = p .protects s b page write
+superviseBy p s b flushAll = supervise s b flushAll
+superviseBy p s b (tag name) = supervise s b (tag name)
+superviseBy p s b (loadAndMap line) = supervise s b (loadAndMap line)
+superviseBy p s b dropTag = supervise s b dropTag
+
+unfoldable pub stepBy : Parts → Shape → Board → Call → Outcome
+stepBy p s b (user process a e) = p .accesses s b process a e
+stepBy p s b (supervisor c) = superviseBy p s b c
+
+-- its replies in order: as `replies`
+unfoldable pub repliesBy : Parts → Shape → Board → List Call → List Reply
+repliesBy p s b [] = []
+repliesBy p s b (k ∷ ks) = reply (stepBy p s b k .answer) ∷ repliesBy p s (stepBy p s b k .after) ks
+
+-- `same-replies` of demand 2, asked of such a machine
+abbrev pub GivesPlainReplies : Parts → Type 0
+GivesPlainReplies p = (s : Shape) (b : Board) → Fresh b → (ks : List Call) → repliesBy p s b ks ≡ plainReplies s (plainOf b (b .store .memory)) ks
+
+-- the board's own calls meet it
+abbrev pub rightParts : Parts
+rightParts = record { accesses = userAccess; maps = calls.mapPage; unmaps = calls.unmap; protects = calls.protect }
+
+abbrev pub RightMeets : Type 0
+RightMeets = GivesPlainReplies rightParts
+
+-- a wrong machine doesn't: in this run it gives other replies than the board and the plain machine
+pub record Breaks (p : Parts) (ks : List Call) (wrong right : List Reply) : Type 0 where
+  pub wrong-replies : repliesBy p shape start ks ≡ wrong
+  pub board-replies : replies shape start ks ≡ right
+  pub plain-replies : plainReplies shape (plainOf start memory) ks ≡ right
+  pub broken : GivesPlainReplies p → ⊥
+
+-- ---- how the runs open
+
+-- page 0x200000, of segment 2048, is mapped to frame 1, and page 0x300000, of segment 3072, to frame 2: the two segments agree in their low ten bits.
+-- Process 0 attaches both for writing, in slots 0 and 1, and stores 50 at 0: name 0x20000000, place 0, physical line 256
+abbrev pub opening : List Call → List Call
+opening ks =
+    supervisor (map 0x200000 1 true) ∷ supervisor (map 0x300000 2 true) ∷ supervisor (attach 0 0 2048 true) ∷ supervisor (attach 0 1 3072 true)
+    ∷ save 0 4 0 50 ∷ ks
+
+-- all of this is done
+abbrev pub opened : List Reply → List Reply
+opened l = gets 0 0 ∷ gets 0 0 ∷ gets 0 0 ∷ gets 0 0 ∷ gets 0 0 ∷ l
+
+-- ---- unmap without dropping lines, the fifty-thousand-volt fault
+
+-- what a call gives, but with lines and memory as they were
+abbrev pub storeKept : Board → Outcome → Outcome
+storeKept b o = outcome (o .answer) (withStore (o .after) (b .store))
+
+-- unmap only sets the word to 0
+abbrev pub unmapKeepsLines : Parts
+unmapKeepsLines = record { accesses = userAccess; maps = calls.mapPage; unmaps = λ s b page. storeKept b (calls.unmap s b page); protects = calls.protect }
+
+-- the page is unmapped, and the process still loads its 50
+abbrev pub UnmapBreaks : Type 0
+UnmapBreaks =
+    Breaks unmapKeepsLines (opening (supervisor (unmap 0x200000) ∷ load 0 3 ∷ [])) (opened (gets 0 0 ∷ gets 0 50 ∷ [])) (opened (gets 0 0 ∷ gets 8 0 ∷ []))
