@@ -250,7 +250,7 @@ memory2-other p b h = zeroed-here memory1 memory1-fits p b 2 h
 pub memory3-first : lineOf memory3 256 ≡ lineWith 50
 memory3-first = written-here memory2 memory2-fits 256 (omega arith) 50
 
-memory3-other : lineOf memory3 512 ≡ lineWith 0
+pub memory3-other : lineOf memory3 512 ≡ lineWith 0
 memory3-other = written-elsewhere memory2 memory2-fits 512 (omega arith) 50 256 (omega arith) ∙ memory2-other 512 (omega arith) refl
 
 memory4-first : lineOf memory4 256 ≡ lineWith 50

@@ -3,9 +3,11 @@ use Prim.Native.Nat.{ℕ}
 use mathlib.Core.Path.{_≡_, refl, sym, ap, _∙_}
 use mathlib.Core.Bool.{true}
 use mathlib.Core.List.{List, [], _∷_, _++_}
+use native.Mathlib.Nat.{zero-add}
 use native.Mathlib.Omega.{arith}
 use lib.Count.{ones, onesIn}
 use lib.ListN.{length, getD, set}
+use Rattle.address.specs.declared.Effective.{Effective}
 use Rattle.board.specs.Answers.{answer}
 use Rattle.board.specs.Lists.{part, splice}
 use Rattle.board.specs.Shapes.{fitsShape}
@@ -15,21 +17,22 @@ use Rattle.slots.specs.Slots.{slotWord}
 use Rattle.pages.specs.Pages.{frameWord, lowestFrom, lowestFrame, mappedTo, directHome, homeBy, homeOf}
 use Rattle.line_bytes.specs.Bytes.{number, digits, stored, lineOf, withLine, zeroedFrame}
 use Rattle.line_bytes.proofs.Bytes.{length-line}
-use Rattle.lines.specs.Records.{wordOf, lineAt, putLine, changedLine}
+use Rattle.lines.specs.Records.{wordOf, lineAt, putLine, newLine, changedLine}
 use Rattle.lines.specs.declared.Line.{Line}
 use Rattle.lines.specs.Holds.{holdsLine, holdsAt, holderFrom, holderOf}
-use Rattle.stores.specs.Stores.{writtenBack, filled, noted, dropped, inserted, performedAt}
+use Rattle.stores.specs.Stores.{store, writtenBack, filled, noted, dropped, inserted, performedAt}
+use Rattle.stores.specs.declared.Access.{Access}
 use Rattle.reach.specs.Reach.{wayByHome, wayBy, wayOf, unreached, mayWrite}
 use Rattle.visits.specs.Visits.{selects, treated, visited, sweep, visitedAll}
-use Rattle.machine.specs.Boards.{Board, outcome}
+use Rattle.machine.specs.Boards.{Board, outcome, withStore}
 use Rattle.machine.specs.Refusals.{byTable, alignedTo, isMapped}
 use Rattle.machine.specs.Accesses.{performedOn, accessedBy, accessed, userTable, userAccess}
 use Rattle.machine.specs.Calls as calls
 use Rattle.promises.specs.Runs.{Supervisor, access, attach, detach, map, unmap, protect, flushAll, tag, loadAndMap, dropTag, Call, user, supervisor, supervise, step, Reply, reply, replies, plainReplies, plainOf}
 use Rattle.promises.proofs.Demand2.{demand2}
 use Rattle.example_runs.specs.Examples.{shape, memory, start, load, save, gets, lineWith}
-use Rattle.example_runs.specs.Wrong.{Parts, superviseBy, stepBy, repliesBy, rightParts, RightMeets, Breaks, opening, opened, unmapKeepsLines, UnmapBreaks}
-use Rattle.example_runs.proofs.Examples.{untagged, slots0, slots1, words1, empty, memory1, memory2, ours, does-map-first, memory1-fits, memory2-fits, memory2-first, fresh-start}
+use Rattle.example_runs.specs.Wrong.{Parts, superviseBy, stepBy, repliesBy, rightParts, RightMeets, Breaks, opening, opened, unmapKeepsLines, UnmapBreaks, noWriteBack, NoWriteBackBreaks}
+use Rattle.example_runs.proofs.Examples.{untagged, slots0, slots1, words1, empty, memory1, memory2, ours, does-map-first, memory1-fits, memory2-fits, memory2-first, memory3, memory3-fits, memory3-first, memory3-other, fresh-start}
 use Rattle.example_runs.proofs.Chains.{Does}
 
 -- ---- the machine with the board's own calls
@@ -186,4 +189,39 @@ unmap-breaks =
     (does-unmap-wrong memory2 memory2-fits next as-board refl (does-hit memory2 memory2-fits 0) next ended))
     (right-opening
     (right-does (does-unmap memory2 memory2-fits) next right-does (does-refuse-unmapped memory2 memory2-fits) next ended))
+    (values-apart 6 (omega arith))
+
+-- ---- no write-back on eviction
+
+-- the line of the other page at place 0
+abbrev theirs : Line
+theirs = newLine 0x30000000 512 true
+
+module _ (m : List ℕ) (fits : length m ≡ 16384) where
+  -- the load from the other page writes the 50 back
+  does-push : lineOf (withLine m 256 (lineWith 50)) 512 ≡ lineWith 0
+      → Does shape (holding (frameWord 0x200000 true) (changedLine ours) 50 m) (load 0 0x400003) (answer 0 0 0)
+      (holding (frameWord 0x200000 true) theirs 0 (withLine m 256 (lineWith 50)))
+  unfolding ones onesIn part splice fitsShape lowestFrom lowestFrame mappedTo homeBy homeOf number lineOf withLine lineAt putLine holdsLine holdsAt holderFrom holderOf writtenBack filled noted inserted performedAt wayByHome wayBy wayOf unreached mayWrite byTable alignedTo performedOn accessedBy accessed userTable userAccess step
+  does-push h = record { does = rw (fits, h) }
+
+  -- the load from the first page then finds what is in memory
+  does-reload : (value : ℕ) → lineOf m 256 ≡ lineWith value
+      → Does shape (holding (frameWord 0x200000 true) theirs 0 m) (load 0 3) (answer 0 value 0) (holding (frameWord 0x200000 true) ours value m)
+  unfolding ones onesIn part splice fitsShape lowestFrom lowestFrame mappedTo homeBy homeOf number lineOf withLine lineAt putLine holdsLine holdsAt holderFrom holderOf writtenBack filled noted inserted performedAt wayByHome wayBy wayOf unreached mayWrite byTable alignedTo performedOn accessedBy accessed userTable userAccess step
+  does-reload value h = record { does = rw (fits, h, zero-add) }
+
+-- a user access that has memory kept
+memory-kept : {b c : Board} {process : ℕ} {u : Access} {e : Effective} {a : Answer}
+    → Does shape b (user process u e) a c → DoesBy noWriteBack b (user process u e) a (withStore c (store (c .store .records) (c .store .cache) (b .store .memory)))
+unfolding stepBy step
+memory-kept x = let e = x .does in record { does = rw e }
+
+pub no-write-back-breaks : NoWriteBackBreaks
+no-write-back-breaks =
+    breaks
+    (ran-opening refl (memory-kept (does-save memory2 memory2-fits memory2-first))
+    (memory-kept (does-push memory2 memory2-fits memory3-other) next memory-kept (does-reload memory2 memory2-fits 0 memory2-first) next ended))
+    (right-opening
+    (right-does (does-push memory2 memory2-fits memory3-other) next right-does (does-reload memory3 memory3-fits 50 memory3-first) next ended))
     (values-apart 6 (omega arith))

@@ -6,6 +6,7 @@ use mathlib.Core.Bool.{Bool, true}
 use mathlib.Core.List.{List, [], _∷_}
 use Rattle.address.specs.declared.Effective.{Effective}
 use Rattle.board.specs.declared.Shape.{Shape}
+use Rattle.stores.specs.Stores.{store}
 use Rattle.stores.specs.declared.Access.{Access}
 use Rattle.machine.specs.Boards.{Board, Fresh, Outcome, outcome, withStore}
 use Rattle.machine.specs.Accesses.{userAccess}
@@ -89,3 +90,23 @@ unmapKeepsLines = record { accesses = userAccess; maps = calls.mapPage; unmaps =
 abbrev pub UnmapBreaks : Type 0
 UnmapBreaks =
     Breaks unmapKeepsLines (opening (supervisor (unmap 0x200000) ∷ load 0 3 ∷ [])) (opened (gets 0 0 ∷ gets 0 50 ∷ [])) (opened (gets 0 0 ∷ gets 8 0 ∷ []))
+
+-- ---- no write-back on eviction
+
+-- what a call gives, but with memory as it was
+abbrev pub memoryKept : Board → Outcome → Outcome
+memoryKept b o = outcome (o .answer) (withStore (o .after) (store (o .after .store .records) (o .after .store .cache) (b .store .memory)))
+
+-- a changed line that a user access pushes out is not written back
+abbrev pub noWriteBack : Parts
+noWriteBack = record {
+  accesses = λ s b process a e. memoryKept b (userAccess s b process a e);
+  maps = calls.mapPage;
+  unmaps = calls.unmap;
+  protects = calls.protect;
+}
+
+-- a load from the other page, name 0x30000000, place 0 too, pushes the 50 out, and it is lost
+abbrev pub NoWriteBackBreaks : Type 0
+NoWriteBackBreaks =
+    Breaks noWriteBack (opening (load 0 0x400003 ∷ load 0 3 ∷ [])) (opened (gets 0 0 ∷ gets 0 0 ∷ [])) (opened (gets 0 0 ∷ gets 0 50 ∷ []))
