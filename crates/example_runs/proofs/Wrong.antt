@@ -1,7 +1,7 @@
 -- The runs in which the wrong machines break demand 2, call by call, beside the board's.
 use Prim.Native.Nat.{ℕ}
 use mathlib.Core.Path.{_≡_, refl, sym, ap, _∙_}
-use mathlib.Core.Bool.{true}
+use mathlib.Core.Bool.{true, false}
 use mathlib.Core.List.{List, [], _∷_, _++_}
 use native.Mathlib.Nat.{zero-add}
 use native.Mathlib.Omega.{arith}
@@ -17,7 +17,7 @@ use Rattle.slots.specs.Slots.{slotWord}
 use Rattle.pages.specs.Pages.{frameWord, lowestFrom, lowestFrame, mappedTo, directHome, homeBy, homeOf}
 use Rattle.line_bytes.specs.Bytes.{number, digits, stored, lineOf, withLine, zeroedFrame}
 use Rattle.line_bytes.proofs.Bytes.{length-line}
-use Rattle.lines.specs.Records.{wordOf, lineAt, putLine, newLine, changedLine}
+use Rattle.lines.specs.Records.{wordOf, lineAt, putLine, newLine, changedLine, permittedLine}
 use Rattle.lines.specs.declared.Line.{Line}
 use Rattle.lines.specs.Holds.{holdsLine, holdsAt, holderFrom, holderOf}
 use Rattle.stores.specs.Stores.{store, writtenBack, filled, noted, dropped, inserted, performedAt}
@@ -31,7 +31,7 @@ use Rattle.machine.specs.Calls as calls
 use Rattle.promises.specs.Runs.{Supervisor, access, attach, detach, map, unmap, protect, flushAll, tag, loadAndMap, dropTag, Call, user, supervisor, supervise, step, Reply, reply, replies, plainReplies, plainOf}
 use Rattle.promises.proofs.Demand2.{demand2}
 use Rattle.example_runs.specs.Examples.{shape, memory, start, load, save, gets, lineWith}
-use Rattle.example_runs.specs.Wrong.{Parts, superviseBy, stepBy, repliesBy, rightParts, RightMeets, Breaks, opening, opened, unmapKeepsLines, UnmapBreaks, noWriteBack, NoWriteBackBreaks}
+use Rattle.example_runs.specs.Wrong.{Parts, superviseBy, stepBy, repliesBy, rightParts, RightMeets, Breaks, opening, opened, unmapKeepsLines, UnmapBreaks, protectKeepsLines, ProtectBreaks, noWriteBack, NoWriteBackBreaks, partCompared, PartComparedBreaks}
 use Rattle.example_runs.proofs.Examples.{untagged, slots0, slots1, words1, empty, memory1, memory2, ours, does-map-first, memory1-fits, memory2-fits, memory2-first, memory3, memory3-fits, memory3-first, memory3-other, fresh-start}
 use Rattle.example_runs.proofs.Chains.{Does}
 
@@ -88,6 +88,9 @@ right-does {b} {c} {k} x = as-board (right-steps shape b k) x
 -- two lists of replies whose values differ somewhere
 values-apart : {l m : List Reply} (i : ℕ) → (getD l i (gets 0 0) .value ≡ getD m i (gets 0 0) .value → ⊥) → l ≡ m → ⊥
 values-apart i differ e = differ (ap (λ (x : List Reply). getD x i (gets 0 0) .value) e)
+
+numbers-apart : {l m : List Reply} (i : ℕ) → (getD l i (gets 0 0) .number ≡ getD m i (gets 0 0) .number → ⊥) → l ≡ m → ⊥
+numbers-apart i differ e = differ (ap (λ (x : List Reply). getD x i (gets 0 0) .number) e)
 
 -- a run in which the two part
 breaks : {p : Parts} {ks : List Call} {wrong right : List Reply} → RanBy p start ks wrong → RanBy rightParts start ks right
@@ -191,6 +194,42 @@ unmap-breaks =
     (right-does (does-unmap memory2 memory2-fits) next right-does (does-refuse-unmapped memory2 memory2-fits) next ended))
     (values-apart 6 (omega arith))
 
+-- ---- protect that forgets the lines
+
+abbrev readOnly : Line
+readOnly = permittedLine ours false
+
+module _ (m : List ℕ) (fits : length m ≡ 16384) where
+  does-protect : Does shape (holding (frameWord 0x200000 true) (changedLine ours) 50 m) (supervisor (protect 0x200000 false)) (answer 0 0 0)
+      (holding (frameWord 0x200000 false) (changedLine readOnly) 50 m)
+  unfolding ones onesIn fitsShape lowestFrom lowestFrame mappedTo lineAt putLine holdsLine holdsAt noted selects treated visited sweep visitedAll byTable isMapped calls.foundFrame calls.protected calls.protect supervise step
+  does-protect = record { does = rw fits }
+
+  does-refuse-read-only : Does shape (holding (frameWord 0x200000 false) (changedLine readOnly) 50 m) (save 0 1 3 7) (answer 9 0 0)
+      (holding (frameWord 0x200000 false) (changedLine readOnly) 50 m)
+  unfolding ones onesIn fitsShape lineAt holdsLine holdsAt holderFrom holderOf wayBy wayOf unreached mayWrite byTable alignedTo userTable userAccess step
+  does-refuse-read-only = record { does = rw fits }
+
+  -- a held line with write permission is stored to, whatever the frame word says
+  does-over : (word : ℕ) → Does shape (holding word (changedLine ours) 50 m) (save 0 1 3 7) (answer 0 0 1) (holding word (changedLine ours) 7 m)
+  unfolding ones onesIn splice fitsShape digits stored lineAt putLine holdsLine holdsAt holderFrom holderOf performedAt wayBy wayOf unreached mayWrite byTable alignedTo performedOn accessedBy accessed userTable userAccess step
+  does-over word = record { does = rw fits }
+
+  does-protect-wrong : DoesBy protectKeepsLines (holding (frameWord 0x200000 true) (changedLine ours) 50 m) (supervisor (protect 0x200000 false)) (answer 0 0 0)
+      (holding (frameWord 0x200000 false) (changedLine ours) 50 m)
+  unfolding superviseBy stepBy supervise step
+  does-protect-wrong = let e = does-protect .does in record { does = rw e }
+
+pub protect-breaks : ProtectBreaks
+unfolding stepBy step
+protect-breaks =
+    breaks
+    (ran-opening refl (as-board refl (does-save memory2 memory2-fits memory2-first))
+    (does-protect-wrong memory2 memory2-fits next as-board refl (does-over memory2 memory2-fits (frameWord 0x200000 false)) next ended))
+    (right-opening
+    (right-does (does-protect memory2 memory2-fits) next right-does (does-refuse-read-only memory2 memory2-fits) next ended))
+    (numbers-apart 6 (omega arith))
+
 -- ---- no write-back on eviction
 
 -- the line of the other page at place 0
@@ -225,3 +264,23 @@ no-write-back-breaks =
     (right-opening
     (right-does (does-push memory2 memory2-fits memory3-other) next right-does (does-reload memory3 memory3-fits 50 memory3-first) next ended))
     (values-apart 6 (omega arith))
+
+-- ---- part of a name
+
+module _ (m : List ℕ) (fits : length m ≡ 16384) where
+  -- the store fills its line as on the board
+  does-save-wrong : lineOf m 256 ≡ lineWith 0
+      → DoesBy partCompared (empty slots2 words2 m) (save 0 4 0 50) (answer 0 0 0) (holding (frameWord 0x200000 true) (changedLine ours) 50 m)
+  unfolding ones onesIn part splice fitsShape lowestFrom lowestFrame mappedTo homeBy homeOf digits stored withLine lineAt putLine holdsLine holdsAt holderFrom holderOf writtenBack filled noted inserted performedAt wayByHome wayBy wayOf unreached mayWrite byTable alignedTo performedOn accessedBy accessed userTable userAccess stepBy
+  does-save-wrong h = record { does = rw (fits, h) }
+
+  -- the load finds the line of the first page, under the name of the other
+  does-hit-wrong : DoesBy partCompared (holding (frameWord 0x200000 true) (changedLine ours) 50 m) (load 0 0x400003) (answer 0 50 1)
+      (holding (frameWord 0x200000 true) (changedLine (newLine 0x30000000 256 true)) 50 m)
+  unfolding ones onesIn fitsShape number lineAt putLine holdsLine holdsAt holderFrom holderOf noted performedAt wayBy wayOf unreached mayWrite byTable alignedTo performedOn accessedBy accessed userTable userAccess stepBy
+  does-hit-wrong = record { does = rw fits }
+
+pub part-compared-breaks : PartComparedBreaks
+part-compared-breaks =
+    breaks (ran-opening refl (does-save-wrong memory2 memory2-fits memory2-first) (does-hit-wrong memory2 memory2-fits next ended))
+    (right-opening (right-does (does-push memory2 memory2-fits memory3-other) next ended)) (values-apart 5 (omega arith))

@@ -1,15 +1,20 @@
 -- Wrong machines that look fine, and for each a run from a fresh board in which it doesn't give the plain machine's replies, as the board does.
 -- They are those of `promises/must-fail`, where the proof of demand 2 no longer fits: here the demand itself is broken.
-use Prim.Native.Nat.{ℕ}
+use Prim.Native.Nat.{ℕ, _%_, _^_}
 use mathlib.Core.Path.{_≡_}
-use mathlib.Core.Bool.{Bool, true}
+use mathlib.Core.Bool.{Bool, true, false, cond}
 use mathlib.Core.List.{List, [], _∷_}
+use lib.Dec.{eqb}
+use Rattle.address.specs.Addresses.{nameOf}
 use Rattle.address.specs.declared.Effective.{Effective}
 use Rattle.board.specs.declared.Shape.{Shape}
-use Rattle.stores.specs.Stores.{store}
+use Rattle.lines.specs.Records.{lineAt}
+use Rattle.lines.specs.Holds.{placeOf}
+use Rattle.lines.specs.declared.Line.{Line}
+use Rattle.stores.specs.Stores.{store, noted}
 use Rattle.stores.specs.declared.Access.{Access}
-use Rattle.machine.specs.Boards.{Board, Fresh, Outcome, outcome, withStore}
-use Rattle.machine.specs.Accesses.{userAccess}
+use Rattle.machine.specs.Boards.{ways, Board, Fresh, Outcome, outcome, withStore}
+use Rattle.machine.specs.Accesses.{userGlobal, userAccess}
 use Rattle.machine.specs.Calls as calls
 use Rattle.promises.specs.Runs.{Supervisor, access, attach, detach, map, unmap, protect, flushAll, tag, loadAndMap, dropTag, Call, user, supervisor, supervise, Reply, reply, replies, plainReplies, plainOf}
 use Rattle.example_runs.specs.Examples.{shape, memory, start, load, save, gets}
@@ -91,6 +96,21 @@ abbrev pub UnmapBreaks : Type 0
 UnmapBreaks =
     Breaks unmapKeepsLines (opening (supervisor (unmap 0x200000) ∷ load 0 3 ∷ [])) (opened (gets 0 0 ∷ gets 0 50 ∷ [])) (opened (gets 0 0 ∷ gets 8 0 ∷ []))
 
+-- ---- protect that changes the frame word and forgets the lines
+
+abbrev pub protectKeepsLines : Parts
+protectKeepsLines = record {
+  accesses = userAccess;
+  maps = calls.mapPage;
+  unmaps = calls.unmap;
+  protects = λ s b page write. storeKept b (calls.protect s b page write);
+}
+
+-- the page is made read-only, and the process still stores to it
+abbrev pub ProtectBreaks : Type 0
+ProtectBreaks =
+    Breaks protectKeepsLines (opening (supervisor (protect 0x200000 false) ∷ save 0 1 3 7 ∷ [])) (opened (gets 0 0 ∷ gets 0 0 ∷ [])) (opened (gets 0 0 ∷ gets 9 0 ∷ []))
+
 -- ---- no write-back on eviction
 
 -- what a call gives, but with memory as it was
@@ -110,3 +130,31 @@ noWriteBack = record {
 abbrev pub NoWriteBackBreaks : Type 0
 NoWriteBackBreaks =
     Breaks noWriteBack (opening (load 0 0x400003 ∷ load 0 3 ∷ [])) (opened (gets 0 0 ∷ gets 0 0 ∷ [])) (opened (gets 0 0 ∷ gets 0 50 ∷ []))
+
+-- ---- comparing only part of a name, so two segments with equal low bits match
+
+-- a line passes for the one of this name if the low 28 bits agree: the low ten of the segment and all below
+abbrev pub passingFor : ℕ → Line → Line
+passingFor name l = record {
+  valid = l .valid;
+  name = cond (eqb (l .name % 2 ^ 28) (name % 2 ^ 28)) name (l .name);
+  physical = l .physical;
+  changed = l .changed;
+  write = l .write;
+}
+
+-- the board on which the line at the place of this name does so
+abbrev pub passingAt : Shape → Board → ℕ → Board
+passingAt s b name = withStore b (noted (placeOf ways s name) (passingFor name (lineAt (b .store .records) (placeOf ways s name))) (b .store))
+
+abbrev pub partCompared : Parts
+partCompared = record {
+  accesses = λ s b process a e. userAccess s (passingAt s b (nameOf (userGlobal (b .slots) process e))) process a e;
+  maps = calls.mapPage;
+  unmaps = calls.unmap;
+  protects = calls.protect;
+}
+
+-- a load from the other page, whose line is not held, gets the 50 of the first
+abbrev pub PartComparedBreaks : Type 0
+PartComparedBreaks = Breaks partCompared (opening (load 0 0x400003 ∷ [])) (opened (gets 0 50 ∷ [])) (opened (gets 0 0 ∷ []))
