@@ -1,5 +1,5 @@
 -- The small runs beside the demands, call by call.
-use Prim.Native.Nat.{ℕ, _+_, _/_, _<_}
+use Prim.Native.Nat.{ℕ, _+_, _*_, _/_, _<_}
 use mathlib.Core.Logic.{_≢_}
 use mathlib.Core.Path.{_≡_, refl, sym, ap, _∙_}
 use mathlib.Core.Bool.{Bool, true, false}
@@ -7,6 +7,7 @@ use mathlib.Core.List.{List, [], _∷_, _++_}
 use native.Mathlib.Omega.{arith}
 use native.Mathlib.Nat.{zero-add}
 use lib.ListN.{length, getD, set, replicate, length-replicate}
+use lib.Seq.{take-all}
 use lib.Count.{ones, onesIn}
 use lib.Dec.{eqb}
 use borrow.Author.Tests.{eqb-true}
@@ -31,7 +32,7 @@ use Rattle.machine.specs.Accesses.{performedOn, accessedBy, accessed, userTable
 use Rattle.machine.specs.Calls as calls
 use Rattle.machine.specs.Calls.{mapPage, mapped}
 use Rattle.machine.specs.Looks.{look}
-use Rattle.store_laws.proofs.Bytes.{line-ext, line-same, copied-at, line-with-other}
+use Rattle.store_laws.proofs.Bytes.{splice-in, line-ext, line-same, line-with-other}
 use Rattle.store_laws.proofs.Zeroed.{zeros-at, length-zeroed, zeroed-line-in, zeroed-line-out}
 use Rattle.promises.specs.Runs.{attach, map, Call, supervisor, supervise, step, after, Reply}
 use Rattle.promises.specs.Demand1.{supervisorRows, rowsOf, appliesIn}
@@ -56,17 +57,18 @@ module _ (m : List ℕ) (fits : length m ≡ 16384) (p : ℕ) (inside : p < 1024
       line-ext (zeroedFrame m f) (lineWith 0) p 0 (omega (arith, length-zeroed m f)) (omega arith)
       (λ k g. zeroed-line-in m f p k h g (omega arith) ∙ sym (zeros-at 16 (0 + k)))
 
-  pub zeroed-elsewhere : (f : ℕ) → p / 256 ≢ f → lineOf (zeroedFrame m f) p ≡ lineOf m p
+  zeroed-elsewhere : (f : ℕ) → p / 256 ≢ f → lineOf (zeroedFrame m f) p ≡ lineOf m p
   zeroed-elsewhere f h = line-same (zeroedFrame m f) m p (length-zeroed m f) (λ k g. zeroed-line-out m f p k h g)
 
   -- a line that was written back, and another line
-  pub written-here : (value : ℕ) → lineOf (withLine m p (lineWith value)) p ≡ lineWith value
+  pub written-here : (line : List ℕ) → length line ≡ 16 → lineOf (withLine m p line) p ≡ line
   unfolding lineOf withLine part
-  written-here value =
-      line-ext (withLine m p (lineWith value)) (lineWith value) p 0 (omega (arith, length-line m p (lineWith value))) (omega arith)
-      (λ k g. copied-at m (lineWith value) p 0 (omega arith) (omega arith) k g)
+  written-here line n =
+      line-ext (withLine m p line) line p 0 (omega (arith, length-line m p line)) (omega arith)
+      (λ k g. splice-in m (16 * p) line (0 + k) (16 * p + k) (omega arith) (omega arith) (omega arith))
+      ∙ take-all 16 line (omega arith)
 
-  pub written-elsewhere : (value q : ℕ) → p ≢ q → lineOf (withLine m q (lineWith value)) p ≡ lineOf m p
+  written-elsewhere : (value q : ℕ) → p ≢ q → lineOf (withLine m q (lineWith value)) p ≡ lineOf m p
   unfolding lineOf part
   written-elsewhere value q h = line-with-other m (lineWith value) q 0 p h
 
@@ -244,11 +246,11 @@ memory4-fits = length-line memory3 512 (lineWith 7) ∙ memory3-fits
 pub memory2-first : lineOf memory2 256 ≡ lineWith 0
 memory2-first = zeroed-elsewhere memory1 memory1-fits 256 (omega arith) 2 (omega arith) ∙ zeroed-here memory length-memory 256 (omega arith) 1 refl
 
-pub memory2-other : (p : ℕ) → p < 1024 → p / 256 ≡ 2 → lineOf memory2 p ≡ lineWith 0
+memory2-other : (p : ℕ) → p < 1024 → p / 256 ≡ 2 → lineOf memory2 p ≡ lineWith 0
 memory2-other p b h = zeroed-here memory1 memory1-fits p b 2 h
 
 pub memory3-first : lineOf memory3 256 ≡ lineWith 50
-memory3-first = written-here memory2 memory2-fits 256 (omega arith) 50
+memory3-first = written-here memory2 memory2-fits 256 (omega arith) (lineWith 50) refl
 
 pub memory3-other : lineOf memory3 512 ≡ lineWith 0
 memory3-other = written-elsewhere memory2 memory2-fits 512 (omega arith) 50 256 (omega arith) ∙ memory2-other 512 (omega arith) refl
@@ -257,7 +259,7 @@ memory4-first : lineOf memory4 256 ≡ lineWith 50
 memory4-first = written-elsewhere memory3 memory3-fits 256 (omega arith) 7 512 (omega arith) ∙ memory3-first
 
 memory4-other : lineOf memory4 512 ≡ lineWith 7
-memory4-other = written-here memory3 memory3-fits 512 (omega arith) 7
+memory4-other = written-here memory3 memory3-fits 512 (omega arith) (lineWith 7) refl
 
 -- the opening
 abbrev six : List Answer → List Answer

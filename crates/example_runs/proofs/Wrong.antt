@@ -1,12 +1,13 @@
 -- The runs in which the wrong machines break demand 2, call by call, beside the board's.
-use Prim.Native.Nat.{ℕ}
+use Prim.Native.Nat.{ℕ, _+_, _<_}
 use mathlib.Core.Path.{_≡_, refl, sym, ap, _∙_}
 use mathlib.Core.Bool.{true, false}
 use mathlib.Core.List.{List, [], _∷_, _++_}
 use native.Mathlib.Nat.{zero-add}
 use native.Mathlib.Omega.{arith}
 use lib.Count.{ones, onesIn}
-use lib.ListN.{length, getD, set}
+use lib.ListN.{length, getD, set, getD-replicate}
+use Rattle.address.specs.Addresses.{global, regionOf}
 use Rattle.address.specs.declared.Effective.{Effective}
 use Rattle.board.specs.Answers.{answer}
 use Rattle.board.specs.Lists.{part, splice}
@@ -14,8 +15,8 @@ use Rattle.board.specs.Shapes.{fitsShape}
 use Rattle.board.specs.declared.Shape.{Shape}
 use Rattle.board.specs.declared.Answer.{Answer}
 use Rattle.slots.specs.Slots.{slotWord}
-use Rattle.pages.specs.Pages.{frameWord, lowestFrom, lowestFrame, mappedTo, directHome, homeBy, homeOf}
-use Rattle.line_bytes.specs.Bytes.{number, digits, stored, lineOf, withLine, zeroedFrame}
+use Rattle.pages.specs.Pages.{frameWord, lowestFrom, lowestFrame, mappedTo, freeFrame, directHome, homeBy, homeOf}
+use Rattle.line_bytes.specs.Bytes.{number, digits, stored, lineOf, withLine, zeros, zeroedFrame}
 use Rattle.line_bytes.proofs.Bytes.{length-line}
 use Rattle.lines.specs.Records.{wordOf, lineAt, putLine, newLine, changedLine, permittedLine}
 use Rattle.lines.specs.declared.Line.{Line}
@@ -25,14 +26,15 @@ use Rattle.stores.specs.declared.Access.{Access}
 use Rattle.reach.specs.Reach.{wayByHome, wayBy, wayOf, unreached, mayWrite}
 use Rattle.visits.specs.Visits.{selects, treated, visited, sweep, visitedAll}
 use Rattle.machine.specs.Boards.{Board, outcome, withStore}
-use Rattle.machine.specs.Refusals.{byTable, alignedTo, isMapped}
-use Rattle.machine.specs.Accesses.{performedOn, accessedBy, accessed, userTable, userAccess}
+use Rattle.machine.specs.Refusals.{byTable, alignedTo, isOrdinary, isCached, isMapped, outside}
+use Rattle.machine.specs.Accesses.{performedOn, accessedBy, accessed, userTable, userAccess, supervisorTable, supervisorDone, supervisorAccess}
 use Rattle.machine.specs.Calls as calls
+use Rattle.store_laws.proofs.Bytes.{line-ext}
 use Rattle.promises.specs.Runs.{Supervisor, access, attach, detach, map, unmap, protect, flushAll, tag, loadAndMap, dropTag, Call, user, supervisor, supervise, step, Reply, reply, replies, plainReplies, plainOf}
 use Rattle.promises.proofs.Demand2.{demand2}
 use Rattle.example_runs.specs.Examples.{shape, memory, start, load, save, gets, lineWith}
-use Rattle.example_runs.specs.Wrong.{Parts, superviseBy, stepBy, repliesBy, rightParts, RightMeets, Breaks, opening, opened, unmapKeepsLines, UnmapBreaks, protectKeepsLines, ProtectBreaks, noWriteBack, NoWriteBackBreaks, partCompared, PartComparedBreaks}
-use Rattle.example_runs.proofs.Examples.{untagged, slots0, slots1, words1, empty, memory1, memory2, ours, does-map-first, memory1-fits, memory2-fits, memory2-first, memory3, memory3-fits, memory3-first, memory3-other, fresh-start}
+use Rattle.example_runs.specs.Wrong.{Parts, superviseBy, stepBy, repliesBy, rightParts, RightMeets, Breaks, opening, opened, unmapKeepsLines, UnmapBreaks, protectKeepsLines, ProtectBreaks, noWriteBack, NoWriteBackBreaks, partCompared, PartComparedBreaks, mapKeepsLines, MapBreaks}
+use Rattle.example_runs.proofs.Examples.{length-memory, zeroed-here, written-here, untagged, slots0, slots1, words1, empty, memory1, memory2, ours, does-map-first, memory1-fits, memory2-fits, memory2-first, memory3, memory3-fits, memory3-first, memory3-other, fresh-start}
 use Rattle.example_runs.proofs.Chains.{Does}
 
 -- ---- the machine with the board's own calls
@@ -63,7 +65,7 @@ right-replies s b (k ∷ ks) = rw (right-steps s b k, right-replies s (step s b 
 pub right-meets : RightMeets
 right-meets s b fresh ks = right-replies s b ks ∙ demand2 s b fresh ks .same-replies
 
--- ---- calls, one after the other
+-- ---- calls, one after the other: as `Does` and `Ran`, of a machine with these calls
 
 record DoesBy (p : Parts) (b : Board) (k : Call) (a : Answer) (c : Board) : Type 0 where
   does : stepBy p shape b k ≡ outcome a c
@@ -196,6 +198,7 @@ unmap-breaks =
 
 -- ---- protect that forgets the lines
 
+-- the line after the board's protect
 abbrev readOnly : Line
 readOnly = permittedLine ours false
 
@@ -250,7 +253,7 @@ module _ (m : List ℕ) (fits : length m ≡ 16384) where
   unfolding ones onesIn part splice fitsShape lowestFrom lowestFrame mappedTo homeBy homeOf number lineOf withLine lineAt putLine holdsLine holdsAt holderFrom holderOf writtenBack filled noted inserted performedAt wayByHome wayBy wayOf unreached mayWrite byTable alignedTo performedOn accessedBy accessed userTable userAccess step
   does-reload value h = record { does = rw (fits, h, zero-add) }
 
--- a user access that has memory kept
+-- what a user access gives, with memory as it was
 memory-kept : {b c : Board} {process : ℕ} {u : Access} {e : Effective} {a : Answer}
     → Does shape b (user process u e) a c → DoesBy noWriteBack b (user process u e) a (withStore c (store (c .store .records) (c .store .cache) (b .store .memory)))
 unfolding stepBy step
@@ -265,7 +268,7 @@ no-write-back-breaks =
     (right-does (does-push memory2 memory2-fits memory3-other) next right-does (does-reload memory3 memory3-fits 50 memory3-first) next ended))
     (values-apart 6 (omega arith))
 
--- ---- part of a name
+-- ---- only part of a name compared
 
 module _ (m : List ℕ) (fits : length m ≡ 16384) where
   -- the store fills its line as on the board
@@ -284,3 +287,75 @@ pub part-compared-breaks : PartComparedBreaks
 part-compared-breaks =
     breaks (ran-opening refl (does-save-wrong memory2 memory2-fits memory2-first) (does-hit-wrong memory2 memory2-fits next ended))
     (right-opening (right-does (does-push memory2 memory2-fits memory3-other) next ended)) (values-apart 5 (omega arith))
+
+-- ---- map without dropping the prefix 1 lines
+
+-- a line of memory, the first four bytes given: before the run all are 255; the supervisor's store leaves 0, 0, 0 and 7
+abbrev lineOver : ℕ → ℕ → List ℕ
+lineOver high value = high ∷ high ∷ high ∷ value ∷ 255 ∷ 255 ∷ 255 ∷ 255 ∷ 255 ∷ 255 ∷ 255 ∷ 255 ∷ 255 ∷ 255 ∷ 255 ∷ 255 ∷ []
+
+-- frame 1's first line under prefix 1, changed
+abbrev direct : Line
+direct = changedLine (newLine 0x10000100 256 true)
+
+-- by the words of record 0; record 1 holds nothing, and the 7 stands in line 0 of the cache
+abbrev direct7 : List ℕ → List ℕ → ℕ → ℕ → List ℕ → Board
+direct7 slots words name word m = untagged slots words (name ∷ word ∷ 0 ∷ 0 ∷ []) (lineOver 0 7 ++ lineWith 0) m
+
+memory-at : (i : ℕ) → i < 16384 → getD memory i 0 ≡ 255
+unfolding memory
+memory-at i h = getD-replicate {A = ℕ} 16384 i 255 0 h
+
+memory-line : lineOf memory 256 ≡ lineOver 255 255
+unfolding lineOf part
+memory-line =
+    line-ext memory (lineOver 255 255) 256 0 (omega (arith, length-memory)) (omega arith)
+    (λ k g. memory-at (4096 + k) (omega arith) ∙ sym (getD-replicate {A = ℕ} 16 (0 + k) 255 0 (omega arith)))
+
+does-direct : Does shape start (supervisor (access (record { store = true; width = 4; value = 7 }) (global 0x100001000))) (answer 0 0 0)
+    (direct7 slots0 (0 ∷ 0 ∷ 0 ∷ 0 ∷ []) (direct .name) (wordOf direct) memory)
+unfolding ones onesIn part splice fitsShape mappedTo homeBy directHome freeFrame homeOf digits stored withLine zeros lineAt putLine holdsLine holdsAt holderFrom holderOf writtenBack filled noted inserted performedAt wayByHome wayBy wayOf unreached byTable alignedTo isOrdinary isCached outside performedOn accessedBy accessed regionOf supervisorTable supervisorDone supervisorAccess supervise step
+does-direct = record { does = rw (length-memory, memory-line) }
+
+module _ (m : List ℕ) (fits : length m ≡ 16384) where
+  does-map : Does shape (direct7 slots0 (0 ∷ 0 ∷ 0 ∷ 0 ∷ []) (direct .name) (wordOf direct) m) (supervisor (map 0x200000 1 true)) (answer 0 0 0)
+      (direct7 slots0 words1 0 0 (zeroedFrame m 1))
+  unfolding ones onesIn fitsShape lowestFrom lowestFrame mappedTo lineAt putLine holdsLine holdsAt noted dropped selects treated visited sweep visitedAll byTable isMapped calls.mapPage calls.mapped supervise step
+  does-map = record { does = rw fits }
+
+  does-map-wrong : DoesBy mapKeepsLines (direct7 slots0 (0 ∷ 0 ∷ 0 ∷ 0 ∷ []) (direct .name) (wordOf direct) m) (supervisor (map 0x200000 1 true)) (answer 0 0 0)
+      (direct7 slots0 words1 (direct .name) (wordOf direct) (zeroedFrame m 1))
+  unfolding superviseBy stepBy supervise step
+  does-map-wrong = let e = does-map .does in record { does = rw e }
+
+  does-attach : (name word : ℕ) → Does shape (direct7 slots0 words1 name word m) (supervisor (attach 0 0 2048 true)) (answer 0 0 0) (direct7 slots1 words1 name word m)
+  unfolding ones onesIn fitsShape byTable calls.attach supervise step
+  does-attach name word = record { does = rw fits }
+
+  -- nothing is held: the line is filled with the zeros of the map
+  does-load-zero : lineOf m 256 ≡ lineWith 0
+      → Does shape (direct7 slots1 words1 0 0 m) (load 0 3) (answer 0 0 0)
+      (untagged slots1 words1 (ours .name ∷ wordOf ours ∷ 0 ∷ 0 ∷ []) (lineWith 0 ++ lineWith 0) m)
+  unfolding ones onesIn part splice fitsShape lowestFrom lowestFrame mappedTo homeBy homeOf number lineOf withLine lineAt putLine holdsLine holdsAt holderFrom holderOf writtenBack filled noted inserted performedAt wayByHome wayBy wayOf unreached mayWrite byTable alignedTo performedOn accessedBy accessed userTable userAccess step
+  does-load-zero h = record { does = rw (fits, h) }
+
+  -- the old line is written back first, over the zeros
+  does-load-seven : lineOf (withLine m 256 (lineOver 0 7)) 256 ≡ lineOver 0 7
+      → Does shape (direct7 slots1 words1 (direct .name) (wordOf direct) m) (load 0 3) (answer 0 7 0)
+      (direct7 slots1 words1 (ours .name) (wordOf ours) (withLine m 256 (lineOver 0 7)))
+  unfolding ones onesIn part splice fitsShape lowestFrom lowestFrame mappedTo homeBy homeOf number lineOf withLine lineAt putLine holdsLine holdsAt holderFrom holderOf writtenBack filled noted inserted performedAt wayByHome wayBy wayOf unreached mayWrite byTable alignedTo performedOn accessedBy accessed userTable userAccess step
+  does-load-seven h = record { does = rw (fits, h) }
+
+memory1-first : lineOf memory1 256 ≡ lineWith 0
+memory1-first = zeroed-here memory length-memory 256 (omega arith) 1 refl
+
+pub map-breaks : MapBreaks
+unfolding superviseBy stepBy supervise step
+map-breaks =
+    breaks
+    (as-board refl does-direct next does-map-wrong memory length-memory
+    next as-board refl (does-attach memory1 memory1-fits (direct .name) (wordOf direct))
+    next as-board refl (does-load-seven memory1 memory1-fits (written-here memory1 memory1-fits 256 (omega arith) (lineOver 0 7) refl)) next ended)
+    (right-does does-direct next right-does (does-map memory length-memory) next right-does (does-attach memory1 memory1-fits 0 0)
+    next right-does (does-load-zero memory1 memory1-fits memory1-first) next ended)
+    (values-apart 3 (omega arith))

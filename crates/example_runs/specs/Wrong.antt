@@ -1,11 +1,11 @@
--- Wrong machines that look fine, and for each a run from a fresh board in which it doesn't give the plain machine's replies, as the board does.
--- They are those of `promises/must-fail`, where the proof of demand 2 no longer fits: here the demand itself is broken.
+-- Wrong machines that look fine, and for each a run from a fresh board in which it doesn't give the plain machine's replies, though the board does.
+-- The faults are those of `promises/must-fail`, where the proof of demand 2 no longer fits; here the demand itself is broken.
 use Prim.Native.Nat.{ℕ, _%_, _^_}
 use mathlib.Core.Path.{_≡_}
 use mathlib.Core.Bool.{Bool, true, false, cond}
 use mathlib.Core.List.{List, [], _∷_}
 use lib.Dec.{eqb}
-use Rattle.address.specs.Addresses.{nameOf}
+use Rattle.address.specs.Addresses.{global, nameOf}
 use Rattle.address.specs.declared.Effective.{Effective}
 use Rattle.board.specs.declared.Shape.{Shape}
 use Rattle.lines.specs.Records.{lineAt}
@@ -158,3 +158,29 @@ partCompared = record {
 -- a load from the other page, whose line is not held, gets the 50 of the first
 abbrev pub PartComparedBreaks : Type 0
 PartComparedBreaks = Breaks partCompared (opening (load 0 0x400003 ∷ [])) (opened (gets 0 50 ∷ [])) (opened (gets 0 0 ∷ []))
+
+-- ---- map without dropping the prefix 1 lines
+
+-- what a call gives, but with the records as they were
+abbrev pub recordsKept : Board → Outcome → Outcome
+recordsKept b o = outcome (o .answer) (withStore (o .after) (store (b .store .records) (o .after .store .cache) (o .after .store .memory)))
+
+-- map only fills the frame with zeros and sets the word. (No line named in the page is held, as the page was not mapped: the frame's prefix 1 lines are
+-- what it ought to drop)
+abbrev pub mapKeepsLines : Parts
+mapKeepsLines = record {
+  accesses = userAccess;
+  maps = λ s b page frame write. recordsKept b (calls.mapPage s b page frame write);
+  unmaps = calls.unmap;
+  protects = calls.protect;
+}
+
+-- the supervisor stores 7 at 0 of frame 1 under prefix 1: name 0x10000100, place 0, physical line 256. Then the frame is mapped to page 0x200000, and
+-- process 0 attaches the page's segment and loads: name 0x20000000, place 0. The 7 is written back over the page, and the process gets it
+abbrev pub MapBreaks : Type 0
+MapBreaks =
+    Breaks mapKeepsLines
+    (supervisor (access (record { store = true; width = 4; value = 7 }) (global 0x100001000)) ∷ supervisor (map 0x200000 1 true)
+    ∷ supervisor (attach 0 0 2048 true) ∷ load 0 3 ∷ [])
+    (gets 0 0 ∷ gets 0 0 ∷ gets 0 0 ∷ gets 0 7 ∷ [])
+    (gets 0 0 ∷ gets 0 0 ∷ gets 0 0 ∷ gets 0 0 ∷ [])
