@@ -1,5 +1,5 @@
 -- The sizes of 01's "Addresses", each named once.
-use Prim.Native.Nat.{ℕ, _*_, _^_}
+use Prim.Native.Nat.{ℕ, _^_}
 
 -- a segment's bytes, a page's, a line's
 abbrev pub segmentBytes : ℕ

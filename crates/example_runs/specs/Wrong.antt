@@ -1,5 +1,5 @@
--- Wrong machines that look fine, and for each a run from a fresh board in which it doesn't give the plain machine's replies, though the board does.
--- The faults are those of `promises/must-fail`, where the proof of demand 2 no longer fits; here the demand itself is broken.
+-- 01, "Shortcuts that look fine": wrong machines, and for each a run from a fresh board in which it doesn't give the plain machine's replies, though the
+-- board does. So it breaks demand 2.
 use Prim.Native.Nat.{ℕ, _%_, _^_}
 use mathlib.Core.Path.{_≡_}
 use mathlib.Core.Bool.{Bool, true, false, cond}

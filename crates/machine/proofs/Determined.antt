@@ -1,7 +1,6 @@
 -- No second outcome meets a call's contract.
 use mathlib.Core.Path.{_≡_, _∙_, sym, ap}
-use Rattle.board.specs.declared.Answer.{Answer}
-use Rattle.machine.specs.Boards.{Board, Outcome, outcome}
+use Rattle.machine.specs.Boards.{Outcome, outcome}
 use Rattle.machine.specs.Contracts.{Determines, NoSecondOutcome}
 
 -- a contract that says the whole outcome

@@ -16,7 +16,6 @@ use Rattle.line_bytes.specs.Bytes.{zeroedFrame}
 use Rattle.stores.specs.Stores.{Store, store, inserted}
 use Rattle.lines.specs.Holds.{placeOf, holderOf}
 use Rattle.visits.specs.Visits.{visitedAll}
-use Rattle.visits.specs.declared.Visit.{Visit}
 use Rattle.visits.specs.declared.Visit.the-variants.{Map, Unmap, Protect, Flush}
 use Rattle.machine.specs.Boards.{ways, Board, Outcome, refused, done, noTag, tagged, withSlots, withTag, withStore, withPages, Pages, pagesOf}
 use Rattle.machine.specs.Refusals.{Row, row, byTable, row1, isProcess, isSlot, isFrame, isPhysicalLine, isName, isMapped, wordInUse}
