@@ -6,11 +6,10 @@ use board::Shape;
 use libc::STDOUT_FILENO;
 use stores::Access;
 
-const PAGE: u64 = 2097152;
+// Segment 2048 with its write bit, and page 0x200000 with its own.
+const SLOT: u32 = 4097;
 
-const FRAME: usize = 1;
-
-const SEGMENT: u64 = 2048;
+const WORD: u64 = 8388611;
 
 // The first line of the frame, where its bytes begin in memory, and the first line past memory.
 const LINE: usize = 256;
@@ -65,41 +64,8 @@ fn look<'a>(
     write_part(line_calls::look(shape(frames), slots, words, records, cache, memory, line));
 }
 
-// The page is mapped, and process 0 attaches its segment.
-fn open(
-    slots: &mut [u32],
-    words: &mut [u64],
-    records: &mut [u64],
-    cache: &[u8],
-    memory: &mut [u8],
-) {
-    map_call::map(
-        shape(4),
-        slots,
-        words,
-        records,
-        cache,
-        memory,
-        PAGE,
-        FRAME,
-        true,
-    );
-    slot_calls::attach(
-        shape(4),
-        slots,
-        words,
-        records,
-        cache,
-        memory,
-        0,
-        0,
-        SEGMENT,
-        true,
-    );
-}
-
-// Process 0 loads or stores a byte.
-fn access(
+// Process 0 loads or stores a byte, and the page's first line is looked at.
+fn turn(
     slots: &[u32],
     words: &[u64],
     records: &mut [u64],
@@ -107,17 +73,7 @@ fn access(
     memory: &mut [u8],
     store: bool,
     address: u32,
-    value: u32,
 ) {
-    let tag = Pending {
-        set: false,
-        name: 0,
-    };
-    let a = Access {
-        store: store,
-        width: 1,
-        value: value,
-    };
     user_access::user_access(
         shape(4),
         slots,
@@ -125,11 +81,19 @@ fn access(
         records,
         cache,
         memory,
-        tag,
+        Pending {
+            set: false,
+            name: 0,
+        },
         0,
-        a,
+        Access {
+            store: store,
+            width: 1,
+            value: 50,
+        },
         Effective(address),
     );
+    look(4, slots, words, records, cache, memory, LINE);
 }
 
 // A byte of a buffer.
@@ -140,18 +104,16 @@ fn write_byte(title: &[u8], bytes: &[u8], at: usize) {
     }
 }
 
-// After a store the part is the cache's: memory still has the zero of the map.
+// After a store the part is the cache's: memory still has its 7.
 fn stored(slots: &[u32], words: &[u64], records: &mut [u64], cache: &mut [u8], memory: &mut [u8]) {
-    access(slots, words, records, cache, memory, true, 3, 50);
-    look(4, slots, words, records, cache, memory, LINE);
+    turn(slots, words, records, cache, memory, true, 3);
     write_byte(b"in memory ", memory, LINE_START + 3);
 }
 
 // Flushed, and its place taken by the line at 32: the part is memory's.
 fn flushed(slots: &[u32], words: &[u64], records: &mut [u64], cache: &mut [u8], memory: &mut [u8]) {
     line_calls::flush_all(shape(4), slots, words, records, cache, memory);
-    access(slots, words, records, cache, memory, false, 32, 0);
-    look(4, slots, words, records, cache, memory, LINE);
+    turn(slots, words, records, cache, memory, false, 32);
     write_byte(b"in the cache ", cache, 3);
 }
 
@@ -161,33 +123,22 @@ fn refused<'a>(slots: &[u32], words: &[u64], records: &[u64], cache: &'a [u8], m
     look(3, slots, words, records, cache, memory, LINE);
 }
 
-// The looks, the first of them at what memory has before anything.
-fn looks(
-    slots: &mut [u32],
-    words: &mut [u64],
-    records: &mut [u64],
-    cache: &mut [u8],
-    memory: &mut [u8],
-) {
-    look(4, slots, words, records, cache, memory, LINE);
-    open(slots, words, records, cache, memory);
+fn looks(slots: &[u32], words: &[u64], records: &mut [u64], cache: &mut [u8], memory: &mut [u8]) {
     stored(slots, words, records, cache, memory);
     flushed(slots, words, records, cache, memory);
     refused(slots, words, records, cache, memory);
 }
 
+// The session's board after its first two calls: the page is mapped, and process 0 has its segment, both for writing. But every byte of
+// the cache is 9, and of memory 7.
 fn main() {
     let mut slots: [u32; 1024] = [0; 1024];
     let mut words: [u64; 4] = [0; 4];
+    slots[0] = SLOT;
+    words[1] = WORD;
     let mut records: [u64; 4] = [0; 4];
-    let mut cache: [u8; 32] = [7; 32];
+    let mut cache: [u8; 32] = [9; 32];
     let mut memory: [u8; 16384] = [7; 16384];
     io::write_all(STDOUT_FILENO, b"line number length bytes\n");
-    looks(
-        &mut slots,
-        &mut words,
-        &mut records,
-        &mut cache,
-        &mut memory,
-    );
+    looks(&slots, &words, &mut records, &mut cache, &mut memory);
 }
