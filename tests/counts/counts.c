@@ -1,0 +1,69 @@
+/* A hundred equal calls of one kind on one board, after what they need: F 64, U 1, P 2, L 16, pages from 0x200000 up mapped to frames 1 to
+ * 62. tests/counts/run counts the library's instructions. With no argument it writes the kinds; kind `nothing` makes no call at the end. */
+#include "oaledva.h"
+#include <stdio.h>
+#include <string.h>
+
+#define PAGE 0x200000ull
+#define CALLS 100
+
+OALEDVA_STATIC_BOARD(b, 64, 1, 2, 16);
+
+static uint64_t user(uint32_t store, uint32_t width, uint32_t address) {
+    return oaledva_user_access(OALEDVA_LEND(b), b.set, b.name, 0, store, width, address, 7);
+}
+
+static uint64_t supervisor(uint32_t store, uint64_t address) {
+    return oaledva_supervisor_access(OALEDVA_LEND(b), b.set, b.name, store, 4, address, 7);
+}
+
+/* Call i of a kind. Two lines of one page that are 256 bytes apart have one place, so they push each other out. */
+#define KINDS                                                                                                      \
+    KIND("nothing", 0)                                                                                             \
+    KIND("user load, hit, width 4", user(0, 4, 0))                                                                 \
+    KIND("user load, hit, width 2", user(0, 2, 0))                                                                 \
+    KIND("user load, hit, width 1", user(0, 1, 0))                                                                 \
+    KIND("user store, hit, width 4", user(1, 4, 0))                                                                \
+    KIND("user store, hit, width 2", user(1, 2, 0))                                                                \
+    KIND("user store, hit, width 1", user(1, 1, 0))                                                                \
+    KIND("user load, miss", user(0, 4, i % 2 * 256))                                                               \
+    KIND("user store, miss with write-back", user(1, 4, i % 2 * 256))                                              \
+    KIND("user load, 62 pages", user(0, 4, i % 62 * 4096 + i % 16 * 16))                                           \
+    KIND("user store, 62 pages", user(1, 4, i % 62 * 4096 + i % 16 * 16))                                          \
+    KIND("user load, refused by 4", user(0, 4, 2))                                                                 \
+    KIND("user load, refused by 6", user(0, 4, 0x400000))                                                          \
+    KIND("user load, refused by 8", user(0, 4, 0x3f0000))                                                          \
+    KIND("supervisor load, hit", supervisor(0, PAGE * 4096))                                                       \
+    KIND("supervisor store, hit", supervisor(1, PAGE * 4096))                                                      \
+    KIND("supervisor load, miss", supervisor(0, PAGE * 4096 + i % 2 * 256))                                        \
+    KIND("supervisor store, miss with write-back", supervisor(1, PAGE * 4096 + i % 2 * 256))                       \
+    KIND("prefix 1 load, hit", supervisor(0, 0x100000000 + 63 * 4096))                                             \
+    KIND("prefix 1 store, miss with write-back", supervisor(1, 0x100000000 + 63 * 4096 + i % 2 * 256))             \
+    KIND("prefix 0 load", supervisor(0, 8))                                                                        \
+    KIND("map and unmap", oaledva_map(OALEDVA_LEND(b), 0x300000, 63, 1) + oaledva_unmap(OALEDVA_LEND(b), 0x300000)) \
+    KIND("protect", oaledva_protect(OALEDVA_LEND(b), PAGE, i % 2))                                                 \
+    KIND("flush all", oaledva_flush_all(OALEDVA_LEND(b)))                                                          \
+    KIND("tag and load-and-map",                                                                                   \
+         oaledva_tag(OALEDVA_LEND(b), OALEDVA_TAG_OF(b), PAGE * 256 + i % 2 * 16)                                  \
+             + oaledva_load_and_map(OALEDVA_LEND(b), OALEDVA_TAG_OF(b), 256 + i % 2 * 16))                         \
+    KIND("attach and detach",                                                                                      \
+         oaledva_attach(OALEDVA_LEND(b), 1, 3, 2048, 0) + oaledva_detach(OALEDVA_LEND(b), 1, 3))                   \
+    KIND("look", oaledva_look(OALEDVA_LEND(b), 256))
+
+int main(int words, char **word) {
+    if (words < 2) {
+#define KIND(name, call) puts(name);
+        KINDS
+#undef KIND
+        return 0;
+    }
+    uint64_t given = oaledva_attach(OALEDVA_LEND(b), 0, 0, 2048, 1);
+    for (uint64_t frame = 1; frame < 63; frame++) given |= oaledva_map(OALEDVA_LEND(b), PAGE + frame - 1, frame, 1);
+    for (uint32_t i = 0; i < CALLS; i++) {
+#define KIND(name, call) \
+    if (!strcmp(word[1], name)) given ^= call;
+        KINDS
+#undef KIND
+    }
+    return given == 1;
+}
