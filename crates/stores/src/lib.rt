@@ -68,8 +68,8 @@ pub fn perform(records: &mut [u64], cache: &mut [u8], i: usize, offset: usize, a
     let at = LINE_BYTES * i + offset;
     let width = a.width;
     if a.store {
-        lines::mark_changed(records, i);
         line_bytes::store_bytes(cache, at, width, a.value);
+        lines::mark_changed(records, i);
         return 0;
     }
     line_bytes::load_bytes(cache, at, width)
