@@ -1,6 +1,7 @@
 // 01, "Addresses": effective, global and physical addresses, what they reach, and page table entries.
 ghost use mathlib.Core.Path.{_≡_};
-ghost use Prim.Native.Nat.{_+_, _<_, _^_};
+ghost use Prim.Native.Nat.{_/_, _<_, _^_};
+ghost use Rattle.address.specs.Layout.{pageBytes, prefixBytes};
 ghost use Rattle.address.specs.Addresses.{slotOf, globalOf, pageOf, nameOf, physicalLineOf, frameOfPhysical, prefixOf, regionOf, physicalOf, inFrame, entryOf, isKernels, attachable, ordinaryPage};
 
 // An address as a process brings it: 32 bits.
@@ -119,7 +120,7 @@ impl Global {
 
     // The address in a frame that its page is mapped to: the translation.
     pub fn in_frame(self, frame: usize) -> Physical
-        requires { ⌜ frame < 2 ^ 20 ⌝ }
+        requires { ⌜ frame < prefixBytes / pageBytes ⌝ }
         ensures { λ r. ⌜ r ≡ inFrame frame self ⌝ }
     {
         Physical((frame as u64 * PAGE_BYTES + self.0 % PAGE_BYTES) as u32)
