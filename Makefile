@@ -1,19 +1,37 @@
 # What a user, an engineer and an auditor run.
-.PHONY: session library test hostile gate
+.PHONY: session library install test hostile gate
 CALLS ?= 10000000
 SEED ?= 1
+PREFIX ?= /usr/local
 
 # Proves what the session needs, runs 01's session and prints its table.
 session:
 	rt check session
 	@cat target/log/session.stdout
 
-# The static libraries, proved: target/staticlib/liboaledva.a and liboaledva_user.a.
+# The static library, proved: target/lib/liboaledva.a. The toolchain writes an archive for each crate that exports; their
+# pieces go into one, each as it is. On another processor than x86-64, AR names an ar for x86-64.
 library:
 	rt staticlib oaledva
 	rt staticlib oaledva_user
+	@mkdir -p target/lib
+	@rm -f target/lib/liboaledva.a
+	@printf '%s\n' 'create target/lib/liboaledva.a' 'addlib target/staticlib/liboaledva.a' \
+	    'addlib target/staticlib/liboaledva_user.a' save end | $(AR) -M
+	@echo 'target/lib/liboaledva.a has every call'
 
-# The libraries tried from C and from Rust, as the gate does.
+# Header, library and a file for pkg-config, below PREFIX (and that below DESTDIR, if it is set).
+install: library
+	@set -e; prefix=$$(realpath -ms '$(PREFIX)'); to='$(DESTDIR)'$$prefix; \
+	version=$$(sed -n 's/^version = "\(.*\)"/\1/p' rust/Cargo.toml); \
+	{ echo "prefix=$$prefix"; sed "s/@VERSION@/$$version/" include/oaledva.pc.in; } >target/lib/oaledva.pc; \
+	install -d "$$to/include" "$$to/lib/pkgconfig"; \
+	install -m 644 include/oaledva.h "$$to/include"; \
+	install -m 644 target/lib/liboaledva.a "$$to/lib"; \
+	install -m 644 target/lib/oaledva.pc "$$to/lib/pkgconfig"; \
+	echo "$$to has header, library and pkg-config's file"
+
+# The library tried from C and from Rust, as the gate does.
 test:
 	tests/run
 

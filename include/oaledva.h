@@ -1,6 +1,10 @@
-/* The calls of the board, proved in Rattle, for C and C++ on x86-64 Linux. Link liboaledva.a and liboaledva_user.a (`make
- * library` builds both). They need memcpy and memset, keep no data of their own and allocate nothing; attach and detach take
- * some 2 KiB of stack.
+/* The calls of the board, proved in Rattle, for C (from C99) and C++ (from C++11) on x86-64 Linux. Link liboaledva.a: `make
+ * library` builds it, and once it is installed `pkg-config --cflags --libs oaledva` says where it and this file are. It needs
+ * memcpy and memset, keeps no data of its own and allocates nothing; attach and detach take some 2 KiB of stack.
+ *
+ * Most programs keep their board in an oaledva_board and use the functions oaledva_board_... at the end of this file. The
+ * functions before those take each number and each buffer by itself, for programs that hold the buffers elsewhere; what a
+ * call does, and by which numbers it is refused, is said there.
  *
  * What is proved of each call, for whatever numbers and buffer lengths the caller brings: on the language's own machine it
  * ends, it takes no step outside the buffers that it is lent, and the answer, the buffers and the tag after it are those that
@@ -15,6 +19,9 @@
  *   - aliasing: what a call may write (a pointer without const) overlaps nothing else that is passed to it, and no other
  *     thread writes what a call reads, or touches what it writes, until it returns. Pointers with const may overlap. Calls
  *     on different boards may run at the same time;
+ *   - the types of their own below (oaledva_answer and the like) are passed and returned as the numbers in them: one number
+ *     as that number is, the two of oaledva_pending one after the other on the stack, because the six arguments that go in
+ *     registers come before it. So it is on x86-64 Linux, in C and in C++;
  *   - the stack has room (see above), and the compiler, the linker and the processor do as they should.
  *
  * What is promised of a run of calls from a fresh board (docs/PROMISES.md: the answers of a machine without a cache, and one
@@ -23,22 +30,44 @@
  *   - U belongs to the board. The buffers' lengths pin F, P and L: a call that brings others is answered by number 1. They
  *     do not pin U, and a call that brings another U than the board's, up to F, is not refused. Example: with U = 0 a page is
  *     mapped to frame 0 and its line is held; then a load with U = 1 finds the line and is answered 0, where a machine without
- *     a cache sees no frame from 1 up with that page, and says 8. Bring the same U in every call, as OALEDVA_LEND does.
- *
- * A flag is a number: 0 is no, anything else is yes.
+ *     a cache sees no frame from 1 up with that page, and says 8. Bring the same U in every call, as a board's functions do.
  */
 #ifndef OALEDVA_H
 #define OALEDVA_H
 
-#if !defined(__x86_64__) || defined(__ILP32__)
-#error "liboaledva.a and liboaledva_user.a are for x86-64 with 64-bit pointers"
+#if !defined(__x86_64__) || defined(__ILP32__) || defined(_WIN32) || defined(__CYGWIN__)
+#error "liboaledva.a is for x86-64 Linux with 64-bit pointers"
 #endif
 
 #include <stddef.h>
 #include <stdint.h>
+#include <string.h>
 
 #ifdef __cplusplus
 extern "C" {
+#endif
+
+/* Of a function, or of a type where the language can say so: the compiler warns where what is returned is thrown away. */
+#ifdef __GNUC__
+#define OALEDVA_MUST_USE __attribute__((warn_unused_result))
+#else
+#define OALEDVA_MUST_USE
+#endif
+#if (defined(__cplusplus) && __cplusplus >= 201703L) || (defined(__STDC_VERSION__) && __STDC_VERSION__ > 201710L)
+#define OALEDVA_MUST_USE_TYPE [[nodiscard]]
+#elif defined(__clang__)
+#define OALEDVA_MUST_USE_TYPE __attribute__((warn_unused_result))
+#else
+#define OALEDVA_MUST_USE_TYPE
+#endif
+
+/* Does not compile where a constant condition fails: with words where the language has them, else by a field's width. */
+#if defined(__cplusplus)
+#define OALEDVA_ASSERT(name, condition, words) static_assert(condition, words)
+#elif defined(__STDC_VERSION__) && __STDC_VERSION__ >= 201112L
+#define OALEDVA_ASSERT(name, condition, words) _Static_assert(condition, words)
+#else
+#define OALEDVA_ASSERT(name, condition, words) struct name { unsigned fails : (condition) ? 1 : -1; }
 #endif
 
 /* ---- limits and sizes
@@ -48,45 +77,252 @@ extern "C" {
 #define OALEDVA_PROCESSES_MAX 16
 #define OALEDVA_LINES_MAX 32768
 
+/* A number as a size_t, without a cast. */
+#define OALEDVA_SIZE(n) (sizeof(char) * (n))
+
+/* Whether the four numbers keep these limits. */
+#define OALEDVA_KEEPS_LIMITS(F, U, P, L)                                                                           \
+    (OALEDVA_SIZE(F) >= 1 && OALEDVA_SIZE(F) <= OALEDVA_FRAMES_MAX && OALEDVA_SIZE(U) <= OALEDVA_SIZE(F)           \
+     && OALEDVA_SIZE(P) >= 1 && OALEDVA_SIZE(P) <= OALEDVA_PROCESSES_MAX && OALEDVA_SIZE(L) >= 1                   \
+     && OALEDVA_SIZE(L) <= OALEDVA_LINES_MAX && (OALEDVA_SIZE(L) & (OALEDVA_SIZE(L) - 1)) == 0)
+
 /* The buffers' lengths, in elements. */
-#define OALEDVA_SLOTS(P) ((size_t)512 * (P))   /* uint32_t: 512 slot words for each process; segment * 2 + write bit, or 0 */
-#define OALEDVA_WORDS(F) ((size_t)(F))         /* uint64_t: a word for each frame; page * 4 + 2 * write bit + 1, or 0 */
-#define OALEDVA_RECORDS(L) ((size_t)2 * (L))   /* uint64_t: two words for each line: the name; physical line * 8 + 4 * changed
-                                                  + 2 * write + valid */
-#define OALEDVA_CACHE(L) ((size_t)16 * (L))    /* uint8_t: the bytes of the lines */
-#define OALEDVA_MEMORY(F) ((size_t)4096 * (F)) /* uint8_t: the bytes of the frames */
+#define OALEDVA_SLOTS(P) (512 * OALEDVA_SIZE(P))   /* uint32_t: 512 slot words a process; segment * 2 + write bit, or 0 */
+#define OALEDVA_WORDS(F) OALEDVA_SIZE(F)           /* uint64_t: a word for each frame; page * 4 + 2 * write bit + 1, or 0 */
+#define OALEDVA_RECORDS(L) (2 * OALEDVA_SIZE(L))   /* uint64_t: two words for each line: the name; physical line * 8
+                                                      + 4 * changed + 2 * write + valid */
+#define OALEDVA_CACHE(L) (16 * OALEDVA_SIZE(L))    /* uint8_t: the bytes of the lines */
+#define OALEDVA_MEMORY(F) (4096 * OALEDVA_SIZE(F)) /* uint8_t: the bytes of the frames */
 #define OALEDVA_LINE_BYTES 16
 
 /* A fresh board: slots and words 0, no record valid (zeros will do), no tag pending; cache and memory may hold any bytes. */
 
 /* ---- numbers: 0 for done, else why the call was refused. A refused call changes nothing, and its value and mark are 0. */
 enum {
-    OALEDVA_DONE = 0,
     OALEDVA_SHAPE = 1,           /* lengths or F, U, P, L disagree or are out of limits */
     OALEDVA_RANGE = 2,           /* process, slot, segment, frame, physical line, line name, page or global address outside its
                                     range */
-    OALEDVA_TAG = 3,             /* a tag is pending (accesses, tag), or none is (load-and-map, drop tag) */
+    OALEDVA_TAG = 3,             /* a tag is pending (user access, supervisor access to an ordinary address, tag), or none is
+                                    (load-and-map, drop tag) */
     OALEDVA_ALIGNMENT = 4,       /* width not 1, 2 or 4, or the address no multiple of it */
     OALEDVA_KERNEL = 5,          /* user address from 2^31 up */
     OALEDVA_SLOT_EMPTY = 6,      /* nothing is attached at the address's slot */
     OALEDVA_SLOT_READ_ONLY = 7,  /* store, and the segment is attached read-only */
-    OALEDVA_NOT_MAPPED = 8,      /* the page is not mapped (and the line not held) */
+    OALEDVA_NOT_MAPPED = 8,      /* the page is not mapped (of an access: and the line not held) */
     OALEDVA_PAGE_READ_ONLY = 9,  /* user store, and the page is read-only */
     OALEDVA_FRAME_IN_USE = 10,   /* map, or an access under prefix 1: the frame's word is not 0 */
     OALEDVA_MAPPED_ALREADY = 11, /* map: the page is mapped already */
-    OALEDVA_OUTSIDE = 12,        /* page table region, beyond memory, prefix 0 from U up, prefix 1 below U */
+    OALEDVA_OUTSIDE = 12,        /* supervisor access: page table region, beyond memory, prefix 0 from U up, prefix 1
+                                    below U */
     OALEDVA_OTHER_LINE = 13      /* load-and-map: not the physical line to which the tag is mapped */
 };
 
-/* ---- answers: number * 2^33 + mark * 2^32 + value. The mark is 1 where an access found its line held. */
-static inline uint32_t oaledva_number(uint64_t answer) { return (uint32_t)(answer >> 33); }
-static inline uint32_t oaledva_mark(uint64_t answer) { return (uint32_t)(answer >> 32) & 1; }
-static inline uint32_t oaledva_value(uint64_t answer) { return (uint32_t)answer; }
+/* ---- answers
+ * What a call gives: number * 2^33 + mark * 2^32 + value, as one number in a type of its own. Nothing compares it, converts
+ * it or tests it by mistake; the functions below take it apart. The mark is 1 where an access found its line held. The
+ * compiler warns of a call whose answer is thrown away; to do so on purpose, write if (oaledva_done(...)) {}. */
+typedef struct OALEDVA_MUST_USE_TYPE oaledva_answer {
+    uint64_t packed;
+} oaledva_answer;
 
-/* ---- a board in one place, for those who want it: the shape, the buffers with their lengths, and the tag.
- * Every call takes the shape and the five buffers first, in this order; OALEDVA_LEND(b) writes these fourteen arguments, and
- * OALEDVA_TAG_OF(b) the tag's two, where a call may change it. So: oaledva_unmap(OALEDVA_LEND(b), page). `b` is written out
- * fourteen times: let it be a name. */
+OALEDVA_MUST_USE static inline uint32_t oaledva_number(oaledva_answer answer) { return (uint32_t)(answer.packed >> 33); }
+OALEDVA_MUST_USE static inline uint32_t oaledva_mark(oaledva_answer answer) { return (uint32_t)(answer.packed >> 32) & 1; }
+OALEDVA_MUST_USE static inline uint32_t oaledva_value(oaledva_answer answer) { return (uint32_t)answer.packed; }
+/* 1 where the call was done (number 0), 0 where it was refused. */
+OALEDVA_MUST_USE static inline int oaledva_done(oaledva_answer answer) { return oaledva_number(answer) == 0; }
+
+/* Where look's bytes stand in the caller's own buffers: an offset in cache, or OALEDVA_IN_MEMORY + an offset in memory;
+ * OALEDVA_NOWHERE where look was refused. It is no answer. */
+typedef struct OALEDVA_MUST_USE_TYPE oaledva_place {
+    uint64_t at;
+} oaledva_place;
+
+#define OALEDVA_IN_MEMORY (UINT64_C(1) << 63)
+#define OALEDVA_NOWHERE UINT64_MAX
+
+/* The number of a look: 0 for done, else why it was refused. It is no answer. */
+typedef struct OALEDVA_MUST_USE_TYPE oaledva_looked {
+    uint32_t number;
+} oaledva_looked;
+
+/* The sixteen bytes at such a place; NULL where look was refused. */
+OALEDVA_MUST_USE static inline const uint8_t *oaledva_bytes_at(const uint8_t *cache, const uint8_t *memory, oaledva_place place) {
+    if (place.at == OALEDVA_NOWHERE) return NULL;
+    return place.at < OALEDVA_IN_MEMORY ? cache + place.at : memory + (place.at - OALEDVA_IN_MEMORY);
+}
+
+/* ---- what a call is told, in types of their own, so that no number is taken for them
+ * A load or a store; read-only or writable. Each is a number, of which 0 is no and anything else is yes: where it comes from
+ * a variable, write (oaledva_permission){w != 0} in C, oaledva_permission{w != 0} in C++. */
+typedef struct oaledva_kind {
+    uint32_t store;
+} oaledva_kind;
+
+typedef struct oaledva_permission {
+    uint32_t write;
+} oaledva_permission;
+
+static const oaledva_kind OALEDVA_LOAD = {0}, OALEDVA_STORE = {1};
+static const oaledva_permission OALEDVA_READ_ONLY = {0}, OALEDVA_WRITABLE = {1};
+
+/* The tag: set is not 0 where one is pending, and name is its line name. Begin with {0, 0} and let the calls change it. */
+typedef struct oaledva_pending {
+    uint32_t set;
+    uint64_t name;
+} oaledva_pending;
+OALEDVA_ASSERT(oaledva_pending_layout, sizeof(oaledva_pending) == 16, "oaledva_pending must not be packed");
+
+/* ==== each number and each buffer by itself
+ * Every call takes the shape and the five buffers first, in this order. */
+#define OALEDVA_SHAPE_ARGS size_t frames, size_t uncached, size_t processes, size_t lines
+
+/* ---- accesses
+ * A user's load or store: process, kind, width in bytes (1, 2 or 4), effective address, the value to store (its low `width`
+ * bytes; a load ignores it). Bytes stand most significant first. The tag goes in by value. Refused by 1 to 9. */
+OALEDVA_MUST_USE oaledva_answer oaledva_user_access(
+    OALEDVA_SHAPE_ARGS,
+    const uint32_t *slots, size_t slots_length,
+    const uint64_t *words, size_t words_length,
+    uint64_t *records, size_t records_length,
+    uint8_t *cache, size_t cache_length,
+    uint8_t *memory, size_t memory_length,
+    oaledva_pending tag,
+    size_t process, oaledva_kind kind, uint32_t width, uint32_t address, uint32_t value);
+
+/* A supervisor's load or store by global address (below 2^44): ordinary; prefix 0, the physical address itself, uncached, in
+ * frames below U; or prefix 1, 2^32 + the physical address, cached, in frames from U up whose word is 0. The page's write bit
+ * is not asked. Refused by 1 to 4, 8, 10 and 12. */
+OALEDVA_MUST_USE oaledva_answer oaledva_supervisor_access(
+    OALEDVA_SHAPE_ARGS,
+    const uint32_t *slots, size_t slots_length,
+    const uint64_t *words, size_t words_length,
+    uint64_t *records, size_t records_length,
+    uint8_t *cache, size_t cache_length,
+    uint8_t *memory, size_t memory_length,
+    oaledva_pending tag,
+    oaledva_kind kind, uint32_t width, uint64_t address, uint32_t value);
+
+/* ---- slots
+ * Attaches a segment (2048 to 4190207) to a slot (below 512) of a process, with or without permission to write; replaces what
+ * was there. Refused by 1 and 2. */
+OALEDVA_MUST_USE oaledva_answer oaledva_attach(
+    OALEDVA_SHAPE_ARGS,
+    uint32_t *slots, size_t slots_length,
+    const uint64_t *words, size_t words_length,
+    const uint64_t *records, size_t records_length,
+    const uint8_t *cache, size_t cache_length,
+    const uint8_t *memory, size_t memory_length,
+    size_t process, size_t slot, uint64_t segment, oaledva_permission permission);
+
+/* Empties a slot of a process; an empty one stays empty. Refused by 1 and 2. */
+OALEDVA_MUST_USE oaledva_answer oaledva_detach(
+    OALEDVA_SHAPE_ARGS,
+    uint32_t *slots, size_t slots_length,
+    const uint64_t *words, size_t words_length,
+    const uint64_t *records, size_t records_length,
+    const uint8_t *cache, size_t cache_length,
+    const uint8_t *memory, size_t memory_length,
+    size_t process, size_t slot);
+
+/* ---- pages
+ * Maps an ordinary page (0x200000 to 0xFFBFFFFF) to a frame (from U up), which is filled with zeros. Held lines named in the
+ * page or in the frame's prefix 1 range are dropped. Refused by 1, 2, 10 and 11. */
+OALEDVA_MUST_USE oaledva_answer oaledva_map(
+    OALEDVA_SHAPE_ARGS,
+    const uint32_t *slots, size_t slots_length,
+    uint64_t *words, size_t words_length,
+    uint64_t *records, size_t records_length,
+    const uint8_t *cache, size_t cache_length,
+    uint8_t *memory, size_t memory_length,
+    uint64_t page, size_t frame, oaledva_permission permission);
+
+/* Unmaps a page: its changed lines are written back, its lines dropped, its frame freed. Refused by 1, 2 and 8. */
+OALEDVA_MUST_USE oaledva_answer oaledva_unmap(
+    OALEDVA_SHAPE_ARGS,
+    const uint32_t *slots, size_t slots_length,
+    uint64_t *words, size_t words_length,
+    uint64_t *records, size_t records_length,
+    const uint8_t *cache, size_t cache_length,
+    uint8_t *memory, size_t memory_length,
+    uint64_t page);
+
+/* Changes the write bit of a page and of its held lines. Refused by 1, 2 and 8. */
+OALEDVA_MUST_USE oaledva_answer oaledva_protect(
+    OALEDVA_SHAPE_ARGS,
+    const uint32_t *slots, size_t slots_length,
+    uint64_t *words, size_t words_length,
+    uint64_t *records, size_t records_length,
+    const uint8_t *cache, size_t cache_length,
+    uint8_t *memory, size_t memory_length,
+    uint64_t page, oaledva_permission permission);
+
+/* Writes back every changed line and drops all lines. Refused by 1. */
+OALEDVA_MUST_USE oaledva_answer oaledva_flush_all(
+    OALEDVA_SHAPE_ARGS,
+    const uint32_t *slots, size_t slots_length,
+    const uint64_t *words, size_t words_length,
+    uint64_t *records, size_t records_length,
+    const uint8_t *cache, size_t cache_length,
+    uint8_t *memory, size_t memory_length);
+
+/* ---- the tag: its two words are changed in place. A refused call leaves both as they are.
+ * Remembers the line name (global address / 16) of a line of an ordinary page, 0x20000000 to 0xFFBFFFFFFF: *set is then 1.
+ * Refused by 1, 2 and 3. */
+OALEDVA_MUST_USE oaledva_answer oaledva_tag(
+    OALEDVA_SHAPE_ARGS,
+    const uint32_t *slots, size_t slots_length,
+    const uint64_t *words, size_t words_length,
+    const uint64_t *records, size_t records_length,
+    const uint8_t *cache, size_t cache_length,
+    const uint8_t *memory, size_t memory_length,
+    uint32_t *set, uint64_t *name,
+    uint64_t line_name);
+
+/* Loads the line of the pending name from the physical line (physical address / 16) to which it is mapped, and forgets the
+ * name: *set and *name are then 0. A line that is held already stays as it is. Refused by 1, 2, 3, 8 and 13. */
+OALEDVA_MUST_USE oaledva_answer oaledva_load_and_map(
+    OALEDVA_SHAPE_ARGS,
+    const uint32_t *slots, size_t slots_length,
+    const uint64_t *words, size_t words_length,
+    uint64_t *records, size_t records_length,
+    uint8_t *cache, size_t cache_length,
+    uint8_t *memory, size_t memory_length,
+    uint32_t *set, uint64_t *name,
+    size_t physical_line);
+
+/* Forgets the pending name: *set and *name are then 0. Refused by 1 and 3. */
+OALEDVA_MUST_USE oaledva_answer oaledva_drop_tag(
+    OALEDVA_SHAPE_ARGS,
+    const uint32_t *slots, size_t slots_length,
+    const uint64_t *words, size_t words_length,
+    const uint64_t *records, size_t records_length,
+    const uint8_t *cache, size_t cache_length,
+    const uint8_t *memory, size_t memory_length,
+    uint32_t *set, uint64_t *name);
+
+/* ---- look: the current sixteen bytes of a physical line (below 256 * F). Changes nothing. Refused by 1 and 2.
+ * Returns their place, which holds until another call changes the board. */
+OALEDVA_MUST_USE oaledva_place oaledva_look(
+    OALEDVA_SHAPE_ARGS,
+    const uint32_t *slots, size_t slots_length,
+    const uint64_t *words, size_t words_length,
+    const uint64_t *records, size_t records_length,
+    const uint8_t *cache, size_t cache_length,
+    const uint8_t *memory, size_t memory_length,
+    size_t physical_line);
+
+/* Its number alone: 0, 1 or 2. */
+OALEDVA_MUST_USE oaledva_looked oaledva_look_number(
+    OALEDVA_SHAPE_ARGS,
+    const uint32_t *slots, size_t slots_length,
+    const uint64_t *words, size_t words_length,
+    const uint64_t *records, size_t records_length,
+    const uint8_t *cache, size_t cache_length,
+    const uint8_t *memory, size_t memory_length,
+    size_t physical_line);
+
+/* ==== a board in one place: the shape, the buffers with their lengths, and the tag. A copy of it shares the buffers but has a
+ * tag of its own: keep one, and hand on its address. */
 typedef struct oaledva_board {
     size_t frames, uncached, processes, lines;
     uint32_t *slots;
@@ -99,181 +335,159 @@ typedef struct oaledva_board {
     size_t cache_length;
     uint8_t *memory;
     size_t memory_length;
-    uint32_t set;
-    uint64_t name;
+    oaledva_pending tag;
 } oaledva_board;
 
+/* The fourteen arguments that every function above takes first, and the tag's two, where a call may change it. `b` is written
+ * out fourteen times: let it be a name, or *name. */
 #define OALEDVA_LEND(b)                                                                                            \
     (b).frames, (b).uncached, (b).processes, (b).lines, (b).slots, (b).slots_length, (b).words, (b).words_length,  \
         (b).records, (b).records_length, (b).cache, (b).cache_length, (b).memory, (b).memory_length
-#define OALEDVA_TAG_OF(b) &(b).set, &(b).name
+#define OALEDVA_TAG_OF(b) &(b).tag.set, &(b).tag.name
 
-/* Declares a fresh board `b` with static buffers, for constants F, U, P and L. */
-#define OALEDVA_STATIC_BOARD(b, F, U, P, L)                                                                         \
+/* An initialiser for a board over five arrays, with no tag pending. The lengths are the arrays' own: where one does not fit,
+ * every call is refused by 1. */
+#define OALEDVA_BOARD(F, U, P, L, slots, words, records, cache, memory)                                            \
+    {F, U, P, L, slots, OALEDVA_COUNT(slots), words, OALEDVA_COUNT(words), records, OALEDVA_COUNT(records), cache, \
+     OALEDVA_COUNT(cache), memory, OALEDVA_COUNT(memory), {0, 0}}
+#define OALEDVA_COUNT(array) (sizeof(array) / sizeof(*(array)))
+
+/* ---- static: declares a fresh board `b` with static buffers, for constants F, U, P and L. It does not compile where they
+ * are out of their limits. The linker takes some 2 GiB of static data for a whole program, so F is at most 262144 here, 1 GiB
+ * of memory; for more, make the board in a block, below. In a function the board is fresh at its first call only; in a header,
+ * every file that includes it has a board of its own. */
+#define OALEDVA_STATIC_FRAMES_MAX 262144
+#define OALEDVA_STATIC_BOARD(b, F, U, P, L)                                                                        \
+    OALEDVA_ASSERT(b##_numbers, OALEDVA_KEEPS_LIMITS(F, U, P, L), "the board's four numbers are out of limits");   \
+    OALEDVA_ASSERT(b##_frames, (F) <= OALEDVA_STATIC_FRAMES_MAX, "too many frames for a static board");            \
     static uint32_t b##_slots[OALEDVA_SLOTS(P)];                                                                   \
     static uint64_t b##_words[OALEDVA_WORDS(F)], b##_records[OALEDVA_RECORDS(L)];                                  \
     static uint8_t b##_cache[OALEDVA_CACHE(L)], b##_memory[OALEDVA_MEMORY(F)];                                     \
-    static oaledva_board b = {F, U, P, L, b##_slots, OALEDVA_SLOTS(P), b##_words, OALEDVA_WORDS(F), b##_records,   \
-                              OALEDVA_RECORDS(L), b##_cache, OALEDVA_CACHE(L), b##_memory, OALEDVA_MEMORY(F), 0, 0}
+    static oaledva_board b = OALEDVA_BOARD(F, U, P, L, b##_slots, b##_words, b##_records, b##_cache, b##_memory)
 
-/* The shape, as every prototype takes it first. */
-#define OALEDVA_SHAPE_ARGS size_t frames, size_t uncached, size_t processes, size_t lines
-
-/* ---- accesses
- * A user's load or store: process, store or load, width in bytes (1, 2 or 4), effective address, the value to store (its low
- * `width` bytes; a load ignores it). Bytes stand most significant first. The pending tag goes in by value: set, name.
- * Refused by 1 to 9. */
-uint64_t oaledva_user_access(
-    OALEDVA_SHAPE_ARGS,
-    const uint32_t *slots, size_t slots_length,
-    const uint64_t *words, size_t words_length,
-    uint64_t *records, size_t records_length,
-    uint8_t *cache, size_t cache_length,
-    uint8_t *memory, size_t memory_length,
-    uint32_t set, uint64_t name,
-    size_t process, uint32_t store, uint32_t width, uint32_t address, uint32_t value);
-
-/* A supervisor's load or store by global address (below 2^44): ordinary; prefix 0, the physical address itself, uncached, in
- * frames below U; or prefix 1, 2^32 + the physical address, cached, in frames from U up whose word is 0. The page's write bit
- * is not asked. Refused by 1 to 4, 8, 10 and 12. */
-uint64_t oaledva_supervisor_access(
-    OALEDVA_SHAPE_ARGS,
-    const uint32_t *slots, size_t slots_length,
-    const uint64_t *words, size_t words_length,
-    uint64_t *records, size_t records_length,
-    uint8_t *cache, size_t cache_length,
-    uint8_t *memory, size_t memory_length,
-    uint32_t set, uint64_t name,
-    uint32_t store, uint32_t width, uint64_t address, uint32_t value);
-
-/* ---- slots
- * Attaches a segment (2048 to 4190207) to a slot (below 512) of a process, with or without permission to write; replaces what
- * was there. Refused by 1 and 2. */
-uint64_t oaledva_attach(
-    OALEDVA_SHAPE_ARGS,
-    uint32_t *slots, size_t slots_length,
-    const uint64_t *words, size_t words_length,
-    const uint64_t *records, size_t records_length,
-    const uint8_t *cache, size_t cache_length,
-    const uint8_t *memory, size_t memory_length,
-    size_t process, size_t slot, uint64_t segment, uint32_t write);
-
-/* Empties a slot of a process; an empty one stays empty. Refused by 1 and 2. */
-uint64_t oaledva_detach(
-    OALEDVA_SHAPE_ARGS,
-    uint32_t *slots, size_t slots_length,
-    const uint64_t *words, size_t words_length,
-    const uint64_t *records, size_t records_length,
-    const uint8_t *cache, size_t cache_length,
-    const uint8_t *memory, size_t memory_length,
-    size_t process, size_t slot);
-
-/* ---- pages
- * Maps an ordinary page (0x200000 to 0xFFBFFFFF) to a frame (from U up), which is filled with zeros. Held lines named in the
- * page or in the frame's prefix 1 range are dropped. Refused by 1, 2, 10 and 11. */
-uint64_t oaledva_map(
-    OALEDVA_SHAPE_ARGS,
-    const uint32_t *slots, size_t slots_length,
-    uint64_t *words, size_t words_length,
-    uint64_t *records, size_t records_length,
-    const uint8_t *cache, size_t cache_length,
-    uint8_t *memory, size_t memory_length,
-    uint64_t page, size_t frame, uint32_t write);
-
-/* Unmaps a page: its changed lines are written back, its lines dropped, its frame freed. Refused by 1, 2 and 8. */
-uint64_t oaledva_unmap(
-    OALEDVA_SHAPE_ARGS,
-    const uint32_t *slots, size_t slots_length,
-    uint64_t *words, size_t words_length,
-    uint64_t *records, size_t records_length,
-    const uint8_t *cache, size_t cache_length,
-    uint8_t *memory, size_t memory_length,
-    uint64_t page);
-
-/* Changes the write bit of a page and of its held lines. Refused by 1, 2 and 8. */
-uint64_t oaledva_protect(
-    OALEDVA_SHAPE_ARGS,
-    const uint32_t *slots, size_t slots_length,
-    uint64_t *words, size_t words_length,
-    uint64_t *records, size_t records_length,
-    const uint8_t *cache, size_t cache_length,
-    uint8_t *memory, size_t memory_length,
-    uint64_t page, uint32_t write);
-
-/* Writes back every changed line and drops all lines. Refused by 1. */
-uint64_t oaledva_flush_all(
-    OALEDVA_SHAPE_ARGS,
-    const uint32_t *slots, size_t slots_length,
-    const uint64_t *words, size_t words_length,
-    uint64_t *records, size_t records_length,
-    const uint8_t *cache, size_t cache_length,
-    uint8_t *memory, size_t memory_length);
-
-/* ---- the tag: *set is not 0 where a tag is pending, and *name is its line name. A refused call leaves both as they are.
- * Remembers the line name (global address / 16) of a line of an ordinary page, 0x20000000 to 0xFFBFFFFFFF: *set is then 1.
- * Refused by 1, 2 and 3. */
-uint64_t oaledva_tag(
-    OALEDVA_SHAPE_ARGS,
-    const uint32_t *slots, size_t slots_length,
-    const uint64_t *words, size_t words_length,
-    const uint64_t *records, size_t records_length,
-    const uint8_t *cache, size_t cache_length,
-    const uint8_t *memory, size_t memory_length,
-    uint32_t *set, uint64_t *name,
-    uint64_t line_name);
-
-/* Loads the line of the pending name from the physical line (physical address / 16) to which it is mapped, and forgets the
- * name: *set and *name are then 0. A line that is held already stays as it is. Refused by 1, 2, 3, 8 and 13. */
-uint64_t oaledva_load_and_map(
-    OALEDVA_SHAPE_ARGS,
-    const uint32_t *slots, size_t slots_length,
-    const uint64_t *words, size_t words_length,
-    uint64_t *records, size_t records_length,
-    uint8_t *cache, size_t cache_length,
-    uint8_t *memory, size_t memory_length,
-    uint32_t *set, uint64_t *name,
-    size_t physical_line);
-
-/* Forgets the pending name: *set and *name are then 0. Refused by 1 and 3. */
-uint64_t oaledva_drop_tag(
-    OALEDVA_SHAPE_ARGS,
-    const uint32_t *slots, size_t slots_length,
-    const uint64_t *words, size_t words_length,
-    const uint64_t *records, size_t records_length,
-    const uint8_t *cache, size_t cache_length,
-    const uint8_t *memory, size_t memory_length,
-    uint32_t *set, uint64_t *name);
-
-/* ---- look: the current sixteen bytes of a physical line (below 256 * F). Changes nothing. Refused by 1 and 2.
- * Returns where they stand in the caller's own buffers: an offset in cache, or OALEDVA_IN_MEMORY + an offset in memory;
- * refused, OALEDVA_NOWHERE. The place holds until another call changes the board. */
-uint64_t oaledva_look(
-    OALEDVA_SHAPE_ARGS,
-    const uint32_t *slots, size_t slots_length,
-    const uint64_t *words, size_t words_length,
-    const uint64_t *records, size_t records_length,
-    const uint8_t *cache, size_t cache_length,
-    const uint8_t *memory, size_t memory_length,
-    size_t physical_line);
-
-#define OALEDVA_IN_MEMORY ((uint64_t)1 << 63)
-#define OALEDVA_NOWHERE UINT64_MAX
-
-/* The sixteen bytes at such a place, in the caller's own buffer; NULL where look was refused. */
-static inline const uint8_t *oaledva_bytes_at(const uint8_t *cache, const uint8_t *memory, uint64_t place) {
-    if (place == OALEDVA_NOWHERE) return NULL;
-    return place < OALEDVA_IN_MEMORY ? cache + place : memory + (place - OALEDVA_IN_MEMORY);
+/* ---- in a block of memory: how many bytes the block must have; 0 where a number is out of its limits. */
+OALEDVA_MUST_USE static inline size_t oaledva_board_bytes(size_t frames, size_t uncached, size_t processes, size_t lines) {
+    if (!OALEDVA_KEEPS_LIMITS(frames, uncached, processes, lines)) return 0;
+    return sizeof(uint64_t) * (OALEDVA_WORDS(frames) + OALEDVA_RECORDS(lines))
+           + sizeof(uint32_t) * OALEDVA_SLOTS(processes) + OALEDVA_CACHE(lines) + OALEDVA_MEMORY(frames);
 }
 
-/* The number that look gives, as it is (0, 1 or 2; no packed answer). */
-uint32_t oaledva_look_number(
-    OALEDVA_SHAPE_ARGS,
-    const uint32_t *slots, size_t slots_length,
-    const uint64_t *words, size_t words_length,
-    const uint64_t *records, size_t records_length,
-    const uint8_t *cache, size_t cache_length,
-    const uint8_t *memory, size_t memory_length,
-    size_t physical_line);
+/* Makes *b the board that stands in a block of `bytes` bytes, with no tag pending: from its start words, records, slots,
+ * cache and memory, without gaps. No byte of the block is changed. The block is malloc's or the like (aligned to 8) and stays
+ * the caller's, to be freed when the board is no longer used.
+ * Refused by 1: a number out of its limits, too few bytes, NULL or not aligned. Then *b has no buffers, and every call on it
+ * is refused by 1 too. */
+OALEDVA_MUST_USE static inline oaledva_answer oaledva_board_over(
+    oaledva_board *b, size_t frames, size_t uncached, size_t processes, size_t lines, void *block, size_t bytes) {
+    const oaledva_answer done = {0}, refused = {(uint64_t)OALEDVA_SHAPE << 33};
+    const size_t needed = oaledva_board_bytes(frames, uncached, processes, lines);
+    if (needed != 0 && bytes >= needed && block != NULL && (uintptr_t)block % sizeof(uint64_t) == 0) {
+        uint64_t *const words = (uint64_t *)block;
+        uint64_t *const records = words + OALEDVA_WORDS(frames);
+        uint32_t *const slots = (uint32_t *)(records + OALEDVA_RECORDS(lines));
+        uint8_t *const cache = (uint8_t *)(slots + OALEDVA_SLOTS(processes));
+        uint8_t *const memory = cache + OALEDVA_CACHE(lines);
+        const oaledva_board board = {frames,  uncached, processes, lines,
+                                     slots,   OALEDVA_SLOTS(processes),
+                                     words,   OALEDVA_WORDS(frames),
+                                     records, OALEDVA_RECORDS(lines),
+                                     cache,   OALEDVA_CACHE(lines),
+                                     memory,  OALEDVA_MEMORY(frames),
+                                     {0, 0}};
+        *b = board;
+        return done;
+    }
+    memset(b, 0, sizeof *b);
+    return refused;
+}
+
+/* The same, and sets the board's bytes to 0, which is a fresh board. (A block of zeros, as calloc gives it, is one already:
+ * oaledva_board_over is enough.) */
+OALEDVA_MUST_USE static inline oaledva_answer oaledva_board_fresh(
+    oaledva_board *b, size_t frames, size_t uncached, size_t processes, size_t lines, void *block, size_t bytes) {
+    const oaledva_answer answer = oaledva_board_over(b, frames, uncached, processes, lines, block, bytes);
+    if (oaledva_done(answer)) memset(block, 0, oaledva_board_bytes(frames, uncached, processes, lines));
+    return answer;
+}
+
+/* ---- the calls on a board, with its own tag. What they do, and by which numbers they are refused, is said above: loads and
+ * stores at the accesses, the others at the function of that name without `board`.
+ * A user's accesses, by effective address: any from 2^31 up, and so a global one, is refused by 5. */
+static inline uint32_t oaledva_effective(uint64_t address) {
+    return (uint32_t)address | (address >> 32 != 0 ? UINT32_C(1) << 31 : 0);
+}
+
+OALEDVA_MUST_USE static inline oaledva_answer oaledva_board_load(
+    oaledva_board *b, size_t process, uint32_t width, uint64_t address) {
+    return oaledva_user_access(OALEDVA_LEND(*b), b->tag, process, OALEDVA_LOAD, width, oaledva_effective(address), 0);
+}
+
+OALEDVA_MUST_USE static inline oaledva_answer oaledva_board_store(
+    oaledva_board *b, size_t process, uint32_t width, uint64_t address, uint32_t value) {
+    return oaledva_user_access(OALEDVA_LEND(*b), b->tag, process, OALEDVA_STORE, width, oaledva_effective(address), value);
+}
+
+/* A supervisor's, by global address. */
+OALEDVA_MUST_USE static inline oaledva_answer oaledva_board_supervisor_load(
+    oaledva_board *b, uint32_t width, uint64_t address) {
+    return oaledva_supervisor_access(OALEDVA_LEND(*b), b->tag, OALEDVA_LOAD, width, address, 0);
+}
+
+OALEDVA_MUST_USE static inline oaledva_answer oaledva_board_supervisor_store(
+    oaledva_board *b, uint32_t width, uint64_t address, uint32_t value) {
+    return oaledva_supervisor_access(OALEDVA_LEND(*b), b->tag, OALEDVA_STORE, width, address, value);
+}
+
+/* Slots and pages. */
+OALEDVA_MUST_USE static inline oaledva_answer oaledva_board_attach(
+    oaledva_board *b, size_t process, size_t slot, uint64_t segment, oaledva_permission permission) {
+    return oaledva_attach(OALEDVA_LEND(*b), process, slot, segment, permission);
+}
+
+OALEDVA_MUST_USE static inline oaledva_answer oaledva_board_detach(oaledva_board *b, size_t process, size_t slot) {
+    return oaledva_detach(OALEDVA_LEND(*b), process, slot);
+}
+
+OALEDVA_MUST_USE static inline oaledva_answer oaledva_board_map(
+    oaledva_board *b, uint64_t page, size_t frame, oaledva_permission permission) {
+    return oaledva_map(OALEDVA_LEND(*b), page, frame, permission);
+}
+
+OALEDVA_MUST_USE static inline oaledva_answer oaledva_board_unmap(oaledva_board *b, uint64_t page) {
+    return oaledva_unmap(OALEDVA_LEND(*b), page);
+}
+
+OALEDVA_MUST_USE static inline oaledva_answer oaledva_board_protect(
+    oaledva_board *b, uint64_t page, oaledva_permission permission) {
+    return oaledva_protect(OALEDVA_LEND(*b), page, permission);
+}
+
+OALEDVA_MUST_USE static inline oaledva_answer oaledva_board_flush_all(oaledva_board *b) {
+    return oaledva_flush_all(OALEDVA_LEND(*b));
+}
+
+/* The tag, b->tag. */
+OALEDVA_MUST_USE static inline oaledva_answer oaledva_board_tag(oaledva_board *b, uint64_t line_name) {
+    return oaledva_tag(OALEDVA_LEND(*b), OALEDVA_TAG_OF(*b), line_name);
+}
+
+OALEDVA_MUST_USE static inline oaledva_answer oaledva_board_load_and_map(oaledva_board *b, size_t physical_line) {
+    return oaledva_load_and_map(OALEDVA_LEND(*b), OALEDVA_TAG_OF(*b), physical_line);
+}
+
+OALEDVA_MUST_USE static inline oaledva_answer oaledva_board_drop_tag(oaledva_board *b) {
+    return oaledva_drop_tag(OALEDVA_LEND(*b), OALEDVA_TAG_OF(*b));
+}
+
+/* Look: the sixteen bytes themselves, in the board's own cache or memory; NULL where it is refused, and then the number says
+ * why. They hold until another call changes the board. */
+OALEDVA_MUST_USE static inline const uint8_t *oaledva_board_look(const oaledva_board *b, size_t physical_line) {
+    return oaledva_bytes_at(b->cache, b->memory, oaledva_look(OALEDVA_LEND(*b), physical_line));
+}
+
+OALEDVA_MUST_USE static inline oaledva_looked oaledva_board_look_number(const oaledva_board *b, size_t physical_line) {
+    return oaledva_look_number(OALEDVA_LEND(*b), physical_line);
+}
 
 #ifdef __cplusplus
 }

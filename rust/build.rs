@@ -1,15 +1,17 @@
-// Finds the two archives: in OALEDVA_LIB (an absolute path) if it is set, else where `make library` writes them.
+// Finds the archive: in OALEDVA_LIB (an absolute path) if it is set, else where `make library` writes it.
 fn main() {
     println!("cargo:rerun-if-env-changed=OALEDVA_LIB");
-    let folder = std::env::var("OALEDVA_LIB")
-        .unwrap_or_else(|_| concat!(env!("CARGO_MANIFEST_DIR"), "/../target/staticlib").into());
-    for archive in ["liboaledva.a", "liboaledva_user.a"] {
-        println!("cargo:rerun-if-changed={folder}/{archive}");
-        if !std::path::Path::new(&folder).join(archive).exists() {
-            println!(
-                "cargo:warning={folder}/{archive} is missing: run `make library`, or set OALEDVA_LIB to its folder"
-            );
-        }
+    let folder = match std::env::var("OALEDVA_LIB") {
+        Ok(folder) if !folder.is_empty() => folder,
+        _ => concat!(env!("CARGO_MANIFEST_DIR"), "/../target/lib").into(),
+    };
+    // Cargo and rustc would each begin a relative path at another folder.
+    assert!(std::path::Path::new(&folder).is_absolute(), "OALEDVA_LIB is {folder}, and must be an absolute path");
+    println!("cargo:rerun-if-changed={folder}/liboaledva.a");
+    if !std::path::Path::new(&folder).join("liboaledva.a").exists() {
+        println!(
+            "cargo:warning={folder}/liboaledva.a is missing: run `make library`, or set OALEDVA_LIB to its folder"
+        );
     }
     println!("cargo:rustc-link-search=native={folder}");
 }

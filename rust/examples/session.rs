@@ -1,9 +1,12 @@
 // The session of the scope document, call by call.
 use oaledva::{Board, Refusal, Shape};
 
+/// A call, with its value where it has one.
+type Call = fn(&mut Board) -> Result<u32, Refusal>;
+
 fn main() -> Result<(), Refusal> {
     let mut board = Board::new(Shape { frames: 4, uncached: 1, processes: 2, lines: 2 })?;
-    let calls: [fn(&mut Board) -> Result<u32, Refusal>; 12] = [
+    let calls: [Call; 12] = [
         |b| b.map(0x200000, 1, true).map(|()| 0),
         |b| b.attach(0, 0, 2048, true).map(|()| 0),
         |b| b.store(0, 4, 0, 50).map(|()| 0),

@@ -1,25 +1,12 @@
-//! The proved board for safe Rust: segments, one page map, a cache whose misses are handled in software.
-//!
-//! Each method is one call of the scope document. It goes to the static libraries, where it is proved to do what its
-//! definition says, whatever the numbers and the buffers. This crate adds types and words; nothing in it is proved. It keeps
-//! what the proof assumes of a caller: the buffers are Rust's own slices, so they are valid, aligned and apart.
-//!
-//! ```
-//! use oaledva::{Board, Refusal, Shape};
-//! let mut board = Board::new(Shape { frames: 4, uncached: 1, processes: 2, lines: 2 })?;
-//! board.map(0x200000, 1, true)?;
-//! board.attach(0, 0, 2048, true)?;
-//! board.store(0, 4, 0, 50)?;
-//! assert_eq!(board.load(0, 1, 3), Ok(50));
-//! assert_eq!(board.load(1, 1, 3), Err(Refusal::SlotEmpty));
-//! # Ok::<(), Refusal>(())
-//! ```
-#[cfg(not(all(target_arch = "x86_64", target_os = "linux")))]
-compile_error!("the static libraries are for x86-64 Linux: build with --target x86_64-unknown-linux-gnu");
+#![doc = include_str!("../README.md")]
+#![deny(missing_docs)]
+#[cfg(not(all(target_arch = "x86_64", target_os = "linux", target_pointer_width = "64")))]
+compile_error!("the static library is for x86-64 Linux: build with --target x86_64-unknown-linux-gnu");
 
 pub mod ffi;
 mod refusal;
 
+use ffi::{Answer, Kind, Pending, Permission, Stands};
 pub use refusal::Refusal;
 use std::ops::DerefMut;
 
@@ -37,8 +24,11 @@ pub struct Shape {
 }
 
 impl Shape {
+    /// The most frames.
     pub const FRAMES_MAX: usize = 1_048_576;
+    /// The most processes.
     pub const PROCESSES_MAX: usize = 16;
+    /// The most lines.
     pub const LINES_MAX: usize = 32_768;
 
     /// Whether the four numbers keep the limits. A board of another shape answers [`Refusal::Shape`] to every call.
@@ -70,7 +60,7 @@ impl Shape {
         LINE_BYTES * self.lines
     }
 
-    /// How many bytes of memory.
+    /// How many bytes of memory. (These five are for numbers within the limits.)
     pub const fn memory(&self) -> usize {
         4096 * self.frames
     }
@@ -111,7 +101,8 @@ impl<Slots: Eq, Words: Eq, Bytes: Eq> Eq for Board<Slots, Words, Bytes> {}
 pub type Lent<'a> = Board<&'a mut [u32], &'a mut [u64], &'a mut [u8]>;
 
 impl Board {
-    /// A fresh board, its memory zero. Refused by [`Refusal::Shape`] if a number is out of its limits.
+    /// A fresh board, its memory zero. Refused by [`Refusal::Shape`] if a number is out of its limits. As with any vector, the
+    /// program ends where there is no memory for it; [`Lent::over`] takes memory of yours.
     pub fn new(shape: Shape) -> Result<Board, Refusal> {
         if !shape.keeps_limits() {
             return Err(Refusal::Shape);
@@ -158,7 +149,8 @@ macro_rules! call {
         let (cache, memory) = ($board.cache.len(), $board.memory.len());
         // Safety: the buffers are those of `Board::new` or `Lent::over` (the fields are private): vectors or slices, so they
         // are valid and aligned, and a length doesn't change from one line to the next. Those that a call may write are
-        // borrowed mutably through the board, so they are apart from all else.
+        // borrowed mutably through the board, so they are apart from all else. The tag's two words, where a call may write
+        // them, are locals of the method.
         unsafe {
             ffi::$name(
                 $board.shape.frames,
@@ -189,95 +181,94 @@ where
 {
     /// A user's load of `width` bytes (1, 2 or 4), most significant first.
     pub fn load(&mut self, process: usize, width: u32, address: u32) -> Result<u32, Refusal> {
-        self.user_access(process, false, width, address, 0)
+        self.user_access(process, Kind::LOAD, width, address, 0)
     }
 
     /// A user's store of the low `width` bytes of `value`.
     pub fn store(&mut self, process: usize, width: u32, address: u32, value: u32) -> Result<(), Refusal> {
-        self.user_access(process, true, width, address, value).map(drop)
+        self.user_access(process, Kind::STORE, width, address, value).map(drop)
     }
 
     /// A supervisor's load by global address: ordinary, prefix 0 (uncached) or prefix 1 (cached).
     pub fn supervisor_load(&mut self, width: u32, address: u64) -> Result<u32, Refusal> {
-        self.supervisor_access(false, width, address, 0)
+        self.supervisor_access(Kind::LOAD, width, address, 0)
     }
 
     /// A supervisor's store by global address. The page's write bit is not asked.
     pub fn supervisor_store(&mut self, width: u32, address: u64, value: u32) -> Result<(), Refusal> {
-        self.supervisor_access(true, width, address, value).map(drop)
+        self.supervisor_access(Kind::STORE, width, address, value).map(drop)
     }
 
     /// Attaches a segment to a slot of a process; replaces what was there.
     pub fn attach(&mut self, process: usize, slot: usize, segment: u64, write: bool) -> Result<(), Refusal> {
-        let packed = call!(self, as_mut_ptr, oaledva_attach(process, slot, segment, write.into()));
-        self.answer(packed).map(drop)
+        let answer = call!(self, as_mut_ptr, oaledva_attach(process, slot, segment, permission(write)));
+        self.answer(answer).map(drop)
     }
 
     /// Empties a slot of a process; an empty one stays empty.
     pub fn detach(&mut self, process: usize, slot: usize) -> Result<(), Refusal> {
-        let packed = call!(self, as_mut_ptr, oaledva_detach(process, slot));
-        self.answer(packed).map(drop)
+        let answer = call!(self, as_mut_ptr, oaledva_detach(process, slot));
+        self.answer(answer).map(drop)
     }
 
     /// Maps a page to a frame, which is filled with zeros.
     pub fn map(&mut self, page: u64, frame: usize, write: bool) -> Result<(), Refusal> {
-        let packed = call!(self, as_mut_ptr, oaledva_map(page, frame, write.into()));
-        self.answer(packed).map(drop)
+        let answer = call!(self, as_mut_ptr, oaledva_map(page, frame, permission(write)));
+        self.answer(answer).map(drop)
     }
 
     /// Unmaps a page: its changed lines are written back, its lines dropped, its frame freed.
     pub fn unmap(&mut self, page: u64) -> Result<(), Refusal> {
-        let packed = call!(self, as_mut_ptr, oaledva_unmap(page));
-        self.answer(packed).map(drop)
+        let answer = call!(self, as_mut_ptr, oaledva_unmap(page));
+        self.answer(answer).map(drop)
     }
 
     /// Changes the write bit of a page and of its held lines.
     pub fn protect(&mut self, page: u64, write: bool) -> Result<(), Refusal> {
-        let packed = call!(self, as_mut_ptr, oaledva_protect(page, write.into()));
-        self.answer(packed).map(drop)
+        let answer = call!(self, as_mut_ptr, oaledva_protect(page, permission(write)));
+        self.answer(answer).map(drop)
     }
 
     /// Writes back every changed line and drops all lines.
     pub fn flush_all(&mut self) -> Result<(), Refusal> {
-        let packed = call!(self, as_mut_ptr, oaledva_flush_all());
-        self.answer(packed).map(drop)
+        let answer = call!(self, as_mut_ptr, oaledva_flush_all());
+        self.answer(answer).map(drop)
     }
 
     /// Remembers a line name: the first part of a load in two parts.
     pub fn tag(&mut self, name: u64) -> Result<(), Refusal> {
-        let (mut set, mut pending) = self.tag_words();
-        let packed = call!(self, as_mut_ptr, oaledva_tag(&mut set, &mut pending, name));
-        self.tagged_answer(packed, set, pending)
+        let mut tag = self.tag_words();
+        let answer = call!(self, as_mut_ptr, oaledva_tag(&mut tag.set, &mut tag.name, name));
+        self.tagged_answer(answer, tag)
     }
 
     /// Loads the line of the pending name from the physical line to which it is mapped, and forgets the name.
     pub fn load_and_map(&mut self, line: usize) -> Result<(), Refusal> {
-        let (mut set, mut pending) = self.tag_words();
-        let packed = call!(self, as_mut_ptr, oaledva_load_and_map(&mut set, &mut pending, line));
-        self.tagged_answer(packed, set, pending)
+        let mut tag = self.tag_words();
+        let answer = call!(self, as_mut_ptr, oaledva_load_and_map(&mut tag.set, &mut tag.name, line));
+        self.tagged_answer(answer, tag)
     }
 
     /// Forgets the pending name.
     pub fn drop_tag(&mut self) -> Result<(), Refusal> {
-        let (mut set, mut pending) = self.tag_words();
-        let packed = call!(self, as_mut_ptr, oaledva_drop_tag(&mut set, &mut pending));
-        self.tagged_answer(packed, set, pending)
+        let mut tag = self.tag_words();
+        let answer = call!(self, as_mut_ptr, oaledva_drop_tag(&mut tag.set, &mut tag.name));
+        self.tagged_answer(answer, tag)
     }
 
     /// The current sixteen bytes of a physical line: that part of the cache bytes or of memory itself.
     pub fn look(&self, line: usize) -> Result<&[u8; LINE_BYTES], Refusal> {
-        let place = call!(self, as_ptr, oaledva_look(line));
-        let (bytes, at) = match place {
-            ffi::NOWHERE => return Err(Refusal::of(self.look_number(line)).expect("look is refused")),
-            place if place < ffi::IN_MEMORY => (&self.cache[..], place as usize),
-            place => (&self.memory[..], (place - ffi::IN_MEMORY) as usize),
+        let (bytes, at) = match call!(self, as_ptr, oaledva_look(line)).stands() {
+            Stands::InCache(at) => (&self.cache[..], at),
+            Stands::InMemory(at) => (&self.memory[..], at),
+            Stands::Nowhere => return Err(Refusal::of(self.look_number(line)).expect("look is refused")),
         };
         Ok(bytes[at..at + LINE_BYTES].try_into().expect("sixteen bytes"))
     }
 
     /// The number of such a look: 0, 1 or 2.
     pub fn look_number(&self, line: usize) -> u32 {
-        call!(self, as_ptr, oaledva_look_number(line))
+        call!(self, as_ptr, oaledva_look_number(line)).number
     }
 
     /// The mark of the last call but look: whether it was an access that found its line held.
@@ -290,22 +281,27 @@ where
         self.pending
     }
 
+    /// Its four numbers.
     pub fn shape(&self) -> Shape {
         self.shape
     }
 
+    /// The slot words: segment × 2 + write bit, or 0.
     pub fn slots(&self) -> &[u32] {
         &self.slots
     }
 
+    /// The frame words: page × 4 + 2 × write bit + 1, or 0.
     pub fn words(&self) -> &[u64] {
         &self.words
     }
 
+    /// The record words, two for each line.
     pub fn records(&self) -> &[u64] {
         &self.records
     }
 
+    /// The cache bytes.
     pub fn cache(&self) -> &[u8] {
         &self.cache
     }
@@ -318,39 +314,46 @@ where
     fn user_access(
         &mut self,
         process: usize,
-        store: bool,
+        kind: Kind,
         width: u32,
         address: u32,
         value: u32,
     ) -> Result<u32, Refusal> {
-        let (set, name) = self.tag_words();
-        let packed =
-            call!(self, as_mut_ptr, oaledva_user_access(set, name, process, store.into(), width, address, value));
-        self.answer(packed)
+        let tag = self.tag_words();
+        let answer = call!(self, as_mut_ptr, oaledva_user_access(tag, process, kind, width, address, value));
+        self.answer(answer)
     }
 
-    fn supervisor_access(&mut self, store: bool, width: u32, address: u64, value: u32) -> Result<u32, Refusal> {
-        let (set, name) = self.tag_words();
-        let packed = call!(self, as_mut_ptr, oaledva_supervisor_access(set, name, store.into(), width, address, value));
-        self.answer(packed)
+    fn supervisor_access(&mut self, kind: Kind, width: u32, address: u64, value: u32) -> Result<u32, Refusal> {
+        let tag = self.tag_words();
+        let answer = call!(self, as_mut_ptr, oaledva_supervisor_access(tag, kind, width, address, value));
+        self.answer(answer)
     }
 
     /// The tag as the library takes it.
-    fn tag_words(&self) -> (u32, u64) {
-        self.pending.map_or((0, 0), |name| (1, name))
+    fn tag_words(&self) -> Pending {
+        self.pending.map_or(Pending { set: 0, name: 0 }, |name| Pending { set: 1, name })
     }
 
-    /// The answer out of its packing, number × 2^33 + mark × 2^32 + value.
-    fn answer(&mut self, packed: u64) -> Result<u32, Refusal> {
-        self.hit = packed >> 32 & 1 == 1;
-        match Refusal::of((packed >> 33) as u32) {
-            None => Ok(packed as u32),
+    /// Keeps an answer's mark, and gives its value or its refusal.
+    fn answer(&mut self, answer: Answer) -> Result<u32, Refusal> {
+        self.hit = answer.mark();
+        match Refusal::of(answer.number()) {
+            None => Ok(answer.value()),
             Some(refusal) => Err(refusal),
         }
     }
 
-    fn tagged_answer(&mut self, packed: u64, set: u32, name: u64) -> Result<(), Refusal> {
-        self.pending = (set != 0).then_some(name);
-        self.answer(packed).map(drop)
+    fn tagged_answer(&mut self, answer: Answer, tag: Pending) -> Result<(), Refusal> {
+        self.pending = (tag.set != 0).then_some(tag.name);
+        self.answer(answer).map(drop)
+    }
+}
+
+fn permission(write: bool) -> Permission {
+    if write {
+        Permission::WRITABLE
+    } else {
+        Permission::READ_ONLY
     }
 }

@@ -1,11 +1,13 @@
-// The three texts that declare the libraries' functions say the same: the Rattle source, the C header and ffi.rs. Names,
-// order, types and what is only read are compared, in one common form: `name: type`, a slice as a pointer and a length.
+// The three texts that declare the library's functions say the same: the Rattle source, the C header and ffi.rs. Names, order,
+// types and what is only read are compared, in one common form: `name: type`, a slice as a pointer and a length. The header
+// and ffi.rs put some numbers into types of their own, which the source doesn't have: there such a type is its numbers.
 use std::collections::BTreeMap;
 
 /// A function's parameters and its result.
 type Functions = BTreeMap<String, (Vec<String>, String)>;
 
-const SHAPE: &str = "frames: usize, uncached: usize, processes: usize, lines: usize, ";
+/// The types of their own, each with its numbers.
+type Types = BTreeMap<String, Vec<String>>;
 
 fn text(file: &str) -> String {
     let path = format!("{}/../{file}", env!("CARGO_MANIFEST_DIR"));
@@ -45,16 +47,24 @@ fn of_rattle(source: &str) -> Functions {
     functions
 }
 
+/// A type of C by its name in Rust.
+fn rust_type(kind: &str) -> String {
+    let title = |word: &str| word[..1].to_uppercase() + &word[1..];
+    match (kind, kind.strip_prefix("oaledva_")) {
+        ("size_t", _) => "usize".into(),
+        (_, Some(own)) => title(own),
+        _ => kind.replace("uint", "u").replace("_t", ""),
+    }
+}
+
 fn of_c(header: &str) -> Functions {
-    let rust_type = |kind: &str| match kind {
-        "size_t" => "usize".to_string(),
-        fixed => fixed.replace("uint", "u").replace("_t", ""),
-    };
+    let (shape, _) = between(header, "#define OALEDVA_SHAPE_ARGS ", "\n").unwrap();
     let mut functions = Functions::new();
     for prototype in header.split(";\n").filter(|part| part.contains("OALEDVA_SHAPE_ARGS,\n")) {
         let (head, parameters) = prototype.split_once("(\n    OALEDVA_SHAPE_ARGS,").unwrap();
-        let (result, name) = head.lines().last().unwrap().split_once(' ').unwrap();
-        let common = list(parameters.trim_end_matches(')')).into_iter().map(|parameter| {
+        let declared = head.lines().last().unwrap().strip_prefix("OALEDVA_MUST_USE ");
+        let (result, name) = declared.unwrap_or_else(|| panic!("may be ignored: {head}")).split_once(' ').unwrap();
+        let common = list(&format!("{shape},{}", parameters.trim_end_matches(')'))).into_iter().map(|parameter| {
             let (kind, name) = parameter.rsplit_once(' ').unwrap();
             match (name.strip_prefix('*'), kind.strip_prefix("const ")) {
                 (Some(name), Some(element)) => format!("{name}: *const {}", rust_type(element)),
@@ -62,39 +72,91 @@ fn of_c(header: &str) -> Functions {
                 _ => format!("{name}: {}", rust_type(kind)),
             }
         });
-        let all = list(SHAPE).into_iter().chain(common).collect();
-        functions.insert(name.into(), (all, rust_type(result)));
+        functions.insert(name.into(), (common.collect(), rust_type(result)));
     }
     functions
 }
 
+fn types_of_c(header: &str) -> Types {
+    let numbers = |body: &str| {
+        let fields = body.split(';').map(str::trim).filter(|field| !field.is_empty());
+        fields
+            .map(|field| field.split_once(' ').unwrap())
+            .map(|(kind, name)| format!("{name}: {}", rust_type(kind)))
+            .collect()
+    };
+    let mut types = Types::new();
+    let mut rest = header;
+    while let Some((declared, after)) = between(rest, "typedef struct ", "}") {
+        let (name, body) = declared.trim_start_matches("OALEDVA_MUST_USE_TYPE ").split_once(" {").unwrap();
+        if name != "oaledva_board" {
+            types.insert(rust_type(name), numbers(body));
+        }
+        rest = after;
+    }
+    types
+}
+
+/// Of those that are laid out as C does it: one number as that number is, more as a struct of C.
+fn types_of_rust(declarations: &str) -> Types {
+    let mut types = Types::new();
+    let mut rest = declarations;
+    while let Some((repr, after)) = between(rest, "#[repr(", ")]\npub struct ") {
+        let (declared, after) = after.split_once("\n}").unwrap();
+        let (name, body) = declared.split_once(" {").unwrap();
+        let fields = body.lines().map(str::trim).filter(|line| !line.is_empty() && !line.starts_with("//"));
+        let plain: Vec<String> =
+            fields.map(|field| field.trim_start_matches("pub ").trim_end_matches(',').into()).collect();
+        if repr == (if plain.len() == 1 { "transparent" } else { "C" }) {
+            types.insert(name.into(), plain);
+        }
+        rest = after;
+    }
+    types
+}
+
+/// By the macros' own text: what stands before each function's own parameters, and what `read` and `write` are.
 fn of_rust(declarations: &str) -> Functions {
-    let elements = [("slots", "u32"), ("words", "u64"), ("records", "u64"), ("cache", "u8"), ("memory", "u8")];
+    assert!(declarations.contains("        extern \"C\" {\n"));
+    let (first, _) = between(declarations, "pub fn $name(", "$(, $argument").unwrap();
+    let pointer = |way: &str| between(declarations, &format!("({way} $element:ty) => {{ "), " $element }").unwrap().0;
     let mut functions = Functions::new();
     let mut rest = declarations.split_once("calls! {").unwrap().1;
     while let Some((name, after)) = between(rest, "    fn ", "(") {
         let (parameters, after) = after.split_once(") -> ").unwrap();
         let (result, after) = after.split_once(';').unwrap();
-        let common = list(parameters).into_iter().flat_map(|parameter| {
-            match elements.iter().find(|(buffer, _)| parameter.ends_with(&format!(" {buffer}"))) {
-                Some((buffer, element)) => {
-                    let pointer = if parameter.starts_with("write") { "*mut" } else { "*const" };
-                    vec![format!("{buffer}: {pointer} {element}"), format!("{buffer}_length: usize")]
-                }
-                None => vec![parameter],
-            }
+        let (own, buffers): (Vec<_>, Vec<_>) = list(parameters).into_iter().partition(|part| part.contains(": "));
+        let common = list(first).into_iter().map(|parameter| {
+            let Some((buffer, element)) = between(&parameter, "pointer!($", ")").and_then(|(of, _)| of.split_once(' '))
+            else {
+                return parameter;
+            };
+            let way = buffers.iter().find_map(|lent| lent.strip_suffix(&format!(" {buffer}"))).unwrap();
+            format!("{}: {} {element}", parameter.split_once(": ").unwrap().0, pointer(way))
         });
-        functions.insert(name.into(), (list(SHAPE).into_iter().chain(common).collect(), result.into()));
+        functions.insert(name.into(), (common.chain(own).collect(), result.into()));
         rest = after;
     }
     functions
 }
 
-/// The header and ffi.rs tell the two kinds of line apart by name; in the source the contract does.
-fn plain_names(functions: Functions) -> Functions {
-    let plain = |parameter: &String| parameter.replace("line_name:", "line:").replace("physical_line:", "line:");
-    let of =
-        |(name, (list, result)): (String, (Vec<String>, String))| (name, (list.iter().map(plain).collect(), result));
+/// As the source declares it: types of their own are their numbers. And the header and ffi.rs tell the two kinds of line apart
+/// by name; in the source the contract does.
+fn in_numbers(functions: Functions, types: &Types) -> Functions {
+    let plain = |parameter: &String| {
+        let (_, kind) = parameter.split_once(": ").unwrap();
+        let own = types.get(kind).cloned().unwrap_or_else(|| vec![parameter.clone()]);
+        own.iter()
+            .map(|number| number.replace("line_name:", "line:").replace("physical_line:", "line:"))
+            .collect::<Vec<_>>()
+    };
+    let result = |kind: String| match types.get(&kind) {
+        Some(numbers) => numbers.iter().map(|number| number.split_once(": ").unwrap().1).collect::<Vec<_>>().join(", "),
+        None => kind,
+    };
+    let of = |(name, (list, kind)): (String, (Vec<String>, String))| {
+        (name, (list.iter().flat_map(plain).collect(), result(kind)))
+    };
     functions.into_iter().map(of).collect()
 }
 
@@ -103,9 +165,24 @@ fn the_source_the_header_and_the_crate_declare_the_same() {
     let mut source = of_rattle(&text("crates/oaledva/src/lib.rt"));
     source.extend(of_rattle(&text("crates/oaledva_user/src/lib.rt")));
     assert_eq!(source.len(), 13);
-    let (header, crates) = (of_c(&text("include/oaledva.h")), of_rust(&text("rust/src/ffi.rs")));
-    assert_eq!(header, crates);
-    assert_eq!(plain_names(header), source);
+    let (header, crates) = (text("include/oaledva.h"), text("rust/src/ffi.rs"));
+    let types = types_of_c(&header);
+    assert_eq!(types.keys().collect::<Vec<_>>(), ["Answer", "Kind", "Looked", "Pending", "Permission", "Place"]);
+    assert_eq!(types, types_of_rust(&crates));
+    for kind in ["Answer", "Looked", "Place"] {
+        assert!(
+            crates.contains(&format!("#[must_use]\n#[repr(transparent)]\npub struct {kind} {{")),
+            "may be ignored: {kind}"
+        );
+    }
+    assert_eq!(of_c(&header), of_rust(&crates));
+    assert_eq!(in_numbers(of_c(&header), &types), source);
+    // A struct of two numbers is passed as they are, one after the other, only where no register is left: after six.
+    for (name, (parameters, _)) in of_c(&header) {
+        let kinds = parameters.iter().map(|parameter| parameter.split_once(": ").unwrap().1);
+        let early = kinds.take(6).filter(|&kind| types.get(kind).is_some_and(|numbers| numbers.len() > 1)).count();
+        assert_eq!(early, 0, "{name}");
+    }
 }
 
 /// So that the comparison can fail: each text, changed in one place, is another.
@@ -119,12 +196,20 @@ fn a_changed_declaration_shows() {
     };
     assert_ne!(of_rattle(&source), of_rattle(&changed(&source, "segment: u64", "segment: u32")));
     assert_ne!(of_rattle(&source), of_rattle(&changed(&source, "cache: &mut [u8]", "cache: &[u8]")));
-    assert_ne!(
-        of_c(&header),
-        of_c(&changed(&header, "size_t process, size_t slot, ", "size_t slot, size_t process, "))
-    );
-    assert_ne!(of_c(&header), of_c(&changed(&header, "const uint64_t *words", "uint64_t *words")));
-    assert_ne!(of_c(&header), of_c(&changed(&header, "uint64_t page", "uint32_t page")));
+    let of_c_changed = |old, new| assert_ne!(of_c(&header), of_c(&changed(&header, old, new)));
+    of_c_changed("    size_t process, size_t slot, ", "    size_t slot, size_t process, ");
+    of_c_changed("ARGS size_t frames, size_t uncached", "ARGS size_t uncached, size_t frames");
+    of_c_changed("const uint64_t *words", "uint64_t *words");
+    of_c_changed("uint64_t page", "uint32_t page");
+    of_c_changed("oaledva_kind kind", "oaledva_permission kind");
+    of_c_changed("oaledva_place oaledva_look(", "oaledva_answer oaledva_look(");
+    assert_ne!(types_of_c(&header), types_of_c(&changed(&header, "    uint32_t set;", "    uint64_t set;")));
+    assert_ne!(types_of_rust(&crates), types_of_rust(&changed(&crates, "packed: u64", "packed: u32")));
+    assert_ne!(types_of_rust(&crates), types_of_rust(&changed(&crates, "#[repr(transparent)]\npub", "pub")));
+    assert_ne!(types_of_rust(&crates), types_of_rust(&changed(&crates, "#[repr(C)]", "#[repr(align(16))]")));
     assert_ne!(of_rust(&crates), of_rust(&changed(&crates, "page: u64", "page: u32")));
     assert_ne!(of_rust(&crates), of_rust(&changed(&crates, "write memory", "read memory")));
+    assert_ne!(of_rust(&crates), of_rust(&changed(&crates, "{ *mut $element }", "{ *const $element }")));
+    assert_ne!(of_rust(&crates), of_rust(&changed(&crates, "frames: usize", "uncached: usize")));
+    assert_ne!(of_rust(&crates), of_rust(&changed(&crates, "-> Answer", "-> u64")));
 }

@@ -10,12 +10,17 @@
 OALEDVA_STATIC_BOARD(b, 64, 1, 2, 16);
 
 static uint64_t user(uint32_t store, uint32_t width, uint32_t address) {
-    return oaledva_user_access(OALEDVA_LEND(b), b.set, b.name, 0, store, width, address, 7);
+    oaledva_kind kind = {store};
+    return oaledva_user_access(OALEDVA_LEND(b), b.tag, 0, kind, width, address, 7).packed;
 }
 
 static uint64_t supervisor(uint32_t store, uint64_t address) {
-    return oaledva_supervisor_access(OALEDVA_LEND(b), b.set, b.name, store, 4, address, 7);
+    oaledva_kind kind = {store};
+    return oaledva_supervisor_access(OALEDVA_LEND(b), b.tag, kind, 4, address, 7).packed;
 }
+
+/* A call by its name, on the board. */
+#define ON_BOARD(call, ...) oaledva_##call(OALEDVA_LEND(b), __VA_ARGS__).packed
 
 /* Call i of a kind. Two lines of one page that are 256 bytes apart have one place, so they push each other out. */
 #define KINDS                                                                                                      \
@@ -40,15 +45,14 @@ static uint64_t supervisor(uint32_t store, uint64_t address) {
     KIND("prefix 1 load, hit", supervisor(0, 0x100000000 + 63 * 4096))                                             \
     KIND("prefix 1 store, miss with write-back", supervisor(1, 0x100000000 + 63 * 4096 + i % 2 * 256))             \
     KIND("prefix 0 load", supervisor(0, 8))                                                                        \
-    KIND("map and unmap", oaledva_map(OALEDVA_LEND(b), 0x300000, 63, 1) + oaledva_unmap(OALEDVA_LEND(b), 0x300000)) \
-    KIND("protect", oaledva_protect(OALEDVA_LEND(b), PAGE, i % 2))                                                 \
-    KIND("flush all", oaledva_flush_all(OALEDVA_LEND(b)))                                                          \
+    KIND("map and unmap", ON_BOARD(map, 0x300000, 63, OALEDVA_WRITABLE) + ON_BOARD(unmap, 0x300000))               \
+    KIND("protect", ON_BOARD(protect, PAGE, i % 2 ? OALEDVA_WRITABLE : OALEDVA_READ_ONLY))                         \
+    KIND("flush all", oaledva_flush_all(OALEDVA_LEND(b)).packed)                                                   \
     KIND("tag and load-and-map",                                                                                   \
-         oaledva_tag(OALEDVA_LEND(b), OALEDVA_TAG_OF(b), PAGE * 256 + i % 2 * 16)                                  \
-             + oaledva_load_and_map(OALEDVA_LEND(b), OALEDVA_TAG_OF(b), 256 + i % 2 * 16))                         \
-    KIND("attach and detach",                                                                                      \
-         oaledva_attach(OALEDVA_LEND(b), 1, 3, 2048, 0) + oaledva_detach(OALEDVA_LEND(b), 1, 3))                   \
-    KIND("look", oaledva_look(OALEDVA_LEND(b), 256))
+         ON_BOARD(tag, OALEDVA_TAG_OF(b), PAGE * 256 + i % 2 * 16)                                                 \
+             + ON_BOARD(load_and_map, OALEDVA_TAG_OF(b), 256 + i % 2 * 16))                                        \
+    KIND("attach and detach", ON_BOARD(attach, 1, 3, 2048, OALEDVA_READ_ONLY) + ON_BOARD(detach, 1, 3))            \
+    KIND("look", oaledva_look(OALEDVA_LEND(b), 256).at)
 
 int main(int words, char **word) {
     if (words < 2) {
@@ -57,8 +61,8 @@ int main(int words, char **word) {
 #undef KIND
         return 0;
     }
-    uint64_t given = oaledva_attach(OALEDVA_LEND(b), 0, 0, 2048, 1);
-    for (uint64_t frame = 1; frame < 63; frame++) given |= oaledva_map(OALEDVA_LEND(b), PAGE + frame - 1, frame, 1);
+    uint64_t given = ON_BOARD(attach, 0, 0, 2048, OALEDVA_WRITABLE);
+    for (uint64_t frame = 1; frame < 63; frame++) given |= ON_BOARD(map, PAGE + frame - 1, frame, OALEDVA_WRITABLE);
     for (uint32_t i = 0; i < CALLS; i++) {
 #define KIND(name, call) \
     if (!strcmp(word[1], name)) given ^= call;

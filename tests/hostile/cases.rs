@@ -445,7 +445,7 @@ pub fn manner_cases(board: &Board, call: &Call, manner: &Manner) -> Vec<Case> {
     let n = board.lengths();
     let empty = [n.slots, n.words, n.records, n.cache, n.memory].contains(&0);
     let flag = match *call {
-        Call::UserAccess { store, .. } | Call::SupervisorAccess { store, .. } => store,
+        Call::UserAccess { store, .. } | Call::SupervisorAccess { store, .. } => store && manner.route != Route::Board,
         Call::Attach { write, .. } | Call::Map { write, .. } | Call::Protect { write, .. } => write,
         _ => false,
     };

@@ -4,7 +4,7 @@
 use crate::guarded::OFFSETS;
 use crate::limits::*;
 use crate::rng::Rng;
-use crate::routes::{Manner, Route};
+use crate::routes::{Manner, ROUTES};
 use crate::trace::{Deed, Start, Step};
 use model::{mapping, page_of_name, slot_read, Board, Call, Shape, NO_TAG};
 
@@ -268,11 +268,7 @@ pub fn step(rng: &mut Rng, world: &World, board: &Board, early: bool) -> Step {
 }
 
 pub fn manner(rng: &mut Rng) -> Manner {
-    Manner {
-        route: rng.pick(&[Route::Raw, Route::Header, Route::Safe]),
-        yes: rng.pick(&[1, 1, 2, 0x8000_0000, u32::MAX]),
-        null: rng.flip(),
-    }
+    Manner { route: rng.pick(&ROUTES).0, yes: rng.pick(&[1, 1, 2, 0x8000_0000, u32::MAX]), null: rng.flip() }
 }
 
 pub fn call(rng: &mut Rng, world: &World, board: &Board, early: bool) -> Call {

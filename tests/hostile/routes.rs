@@ -1,5 +1,6 @@
-//! The three routes to the library: the raw declarations of the Rust crate, the C header (by through.c), and the safe Rust
-//! crate. Each brings one call, or one look, to the board of `Real`.
+//! The four routes to the library: the raw declarations of the Rust crate; the C header's functions over each number and
+//! buffer, and those over a board (both by through.c); and the safe Rust crate. Each brings one call, or one look, to the
+//! board of `Real`.
 
 use crate::guarded::Real;
 use crate::limits::{FRAMES_MAX, LINES_MAX, LINE_BYTES, PROCESSES_MAX};
@@ -10,16 +11,19 @@ use oaledva::{ffi, Lent, Refusal};
 pub enum Route {
     Raw,
     Header,
+    Board,
     Safe,
 }
 
-pub const ROUTES: [(Route, &str); 3] = [(Route::Raw, "raw"), (Route::Header, "header"), (Route::Safe, "safe")];
+pub const ROUTES: [(Route, &str); 4] =
+    [(Route::Raw, "raw"), (Route::Header, "header"), (Route::Board, "board"), (Route::Safe, "safe")];
 
 /// How a call is brought.
 #[derive(Clone, Copy, Debug, PartialEq, Eq)]
 pub struct Manner {
     pub route: Route,
-    /// The number that says yes, in flags and in the tag's set: anything but 0 (the safe route has its own).
+    /// The number that says yes, in flags and in the tag's set: anything but 0 (the safe route has its own, and so has the
+    /// board's for stores).
     pub yes: u32,
     /// Empty buffers go as NULL (not on the safe route).
     pub null: bool,
@@ -32,6 +36,10 @@ impl Manner {
         } else {
             0
         }
+    }
+
+    fn by_board(&self) -> bool {
+        self.route == Route::Board
     }
 }
 
@@ -82,8 +90,7 @@ pub struct CBoard {
     cache_length: usize,
     memory: *mut u8,
     memory_length: usize,
-    set: u32,
-    name: u64,
+    tag: ffi::Pending,
 }
 
 impl CBoard {
@@ -104,8 +111,7 @@ impl CBoard {
             cache_length: real.cache.len(),
             memory: real.memory.pointer(null),
             memory_length: real.memory.len(),
-            set,
-            name,
+            tag: ffi::Pending { set, name },
         }
     }
 }
@@ -120,25 +126,41 @@ struct CAnswer {
 #[link(name = "through", kind = "static")]
 extern "C" {
     fn through_board_bytes() -> usize;
-    fn through_constants(constants: *mut [usize; 18]);
+    fn through_constants(constants: *mut [usize; 17]);
     fn through_lengths(frames: usize, processes: usize, lines: usize, lengths: *mut [usize; 5]);
-    fn through_user_access(b: *mut CBoard, process: usize, store: u32, width: u32, at: u32, value: u32) -> CAnswer;
-    fn through_supervisor_access(b: *mut CBoard, store: u32, width: u32, address: u64, value: u32) -> CAnswer;
-    fn through_attach(b: *mut CBoard, process: usize, slot: usize, segment: u64, write: u32) -> CAnswer;
-    fn through_detach(b: *mut CBoard, process: usize, slot: usize) -> CAnswer;
-    fn through_map(b: *mut CBoard, page: u64, frame: usize, write: u32) -> CAnswer;
-    fn through_unmap(b: *mut CBoard, page: u64) -> CAnswer;
-    fn through_protect(b: *mut CBoard, page: u64, write: u32) -> CAnswer;
-    fn through_flush_all(b: *mut CBoard) -> CAnswer;
-    fn through_tag(b: *mut CBoard, line: u64) -> CAnswer;
-    fn through_load_and_map(b: *mut CBoard, line: usize) -> CAnswer;
-    fn through_drop_tag(b: *mut CBoard) -> CAnswer;
-    fn through_look(b: *mut CBoard, line: usize) -> *const u8;
-    fn through_look_number(b: *mut CBoard, line: usize) -> u32;
+    fn through_user_access(
+        b: *mut CBoard,
+        by_board: bool,
+        process: usize,
+        store: u32,
+        width: u32,
+        at: u32,
+        value: u32,
+    ) -> CAnswer;
+    fn through_supervisor_access(
+        b: *mut CBoard,
+        by_board: bool,
+        store: u32,
+        width: u32,
+        address: u64,
+        value: u32,
+    ) -> CAnswer;
+    fn through_attach(b: *mut CBoard, by_board: bool, process: usize, slot: usize, segment: u64, write: u32)
+        -> CAnswer;
+    fn through_detach(b: *mut CBoard, by_board: bool, process: usize, slot: usize) -> CAnswer;
+    fn through_map(b: *mut CBoard, by_board: bool, page: u64, frame: usize, write: u32) -> CAnswer;
+    fn through_unmap(b: *mut CBoard, by_board: bool, page: u64) -> CAnswer;
+    fn through_protect(b: *mut CBoard, by_board: bool, page: u64, write: u32) -> CAnswer;
+    fn through_flush_all(b: *mut CBoard, by_board: bool) -> CAnswer;
+    fn through_tag(b: *mut CBoard, by_board: bool, line: u64) -> CAnswer;
+    fn through_load_and_map(b: *mut CBoard, by_board: bool, line: usize) -> CAnswer;
+    fn through_drop_tag(b: *mut CBoard, by_board: bool) -> CAnswer;
+    fn through_look(b: *mut CBoard, by_board: bool, line: usize) -> *const u8;
+    fn through_look_number(b: *mut CBoard, by_board: bool, line: usize) -> u32;
 }
 
-/// The refusal numbers by the names of the Rust crate, from 0 (done) to 13, then the limits, by 01.
-fn constants() -> [usize; 18] {
+/// The refusal numbers by the names of the Rust crate, from 1 to 13, then the limits, by 01.
+fn constants() -> [usize; 17] {
     let refusals = [
         Refusal::Shape,
         Refusal::Range,
@@ -154,11 +176,11 @@ fn constants() -> [usize; 18] {
         Refusal::Outside,
         Refusal::OtherLine,
     ];
-    let mut all = [0; 18];
-    for (at, refusal) in (1..).zip(refusals) {
-        all[at] = refusal.number() as usize;
+    let mut all = [0; 17];
+    for (number, refusal) in all.iter_mut().zip(refusals) {
+        *number = refusal.number() as usize;
     }
-    all[14..].copy_from_slice(&[FRAMES_MAX, PROCESSES_MAX, LINES_MAX, LINE_BYTES].map(|limit| limit as usize));
+    all[13..].copy_from_slice(&[FRAMES_MAX, PROCESSES_MAX, LINES_MAX, LINE_BYTES].map(|limit| limit as usize));
     all
 }
 
@@ -168,7 +190,7 @@ pub fn header_disagrees() -> Option<String> {
     if theirs != ours {
         return Some(format!("oaledva_board has {theirs} bytes, the test's mirror of it {ours}"));
     }
-    let mut theirs = [0; 18];
+    let mut theirs = [0; 17];
     unsafe { through_constants(&mut theirs) };
     let ours = constants();
     if theirs != ours {
@@ -191,7 +213,7 @@ pub fn safe_can_carry(real: &Real) -> bool {
 pub fn call(real: &mut Real, call: &Call, manner: &Manner) -> Result<Answer, String> {
     match manner.route {
         Route::Raw => Ok(unsafe { raw_call(real, call, manner) }),
-        Route::Header => caged(real, manner, |board| unsafe { header_call(board, call, manner) }),
+        Route::Header | Route::Board => caged(real, manner, |board| unsafe { c_call(board, call, manner) }),
         Route::Safe => Ok(safe_call(real, call)),
     }
 }
@@ -201,15 +223,15 @@ pub fn look(real: &mut Real, line: u64, manner: &Manner) -> Result<Looked, Strin
     match manner.route {
         Route::Raw => {
             let board = CBoard::of(real, manner.null);
-            let bytes = match unsafe { raw!(board, oaledva_look, line) } {
-                ffi::NOWHERE => None,
-                place if place < ffi::IN_MEMORY => Some(board.cache.wrapping_add(place as usize)),
-                place => Some(board.memory.wrapping_add((place - ffi::IN_MEMORY) as usize)),
+            let bytes = match unsafe { raw!(board, oaledva_look, line) }.stands() {
+                ffi::Stands::InCache(at) => Some(board.cache.wrapping_add(at)),
+                ffi::Stands::InMemory(at) => Some(board.memory.wrapping_add(at)),
+                ffi::Stands::Nowhere => None,
             };
             Ok(Looked { number: None, bytes: bytes.map(|at| (at.cast_const(), oaledva::LINE_BYTES)) })
         }
-        Route::Header => {
-            let at = caged(real, manner, |board| unsafe { through_look(board, line) })?;
+        Route::Header | Route::Board => {
+            let at = caged(real, manner, |board| unsafe { through_look(board, manner.by_board(), line) })?;
             Ok(Looked { number: None, bytes: (!at.is_null()).then_some((at, oaledva::LINE_BYTES)) })
         }
         Route::Safe => Ok(match lent(real).look(line) {
@@ -224,9 +246,11 @@ pub fn look_number(real: &mut Real, line: u64, manner: &Manner) -> Result<u32, S
     match manner.route {
         Route::Raw => {
             let board = CBoard::of(real, manner.null);
-            Ok(unsafe { raw!(board, oaledva_look_number, line) })
+            Ok(unsafe { raw!(board, oaledva_look_number, line) }.number)
         }
-        Route::Header => caged(real, manner, |board| unsafe { through_look_number(board, line) }),
+        Route::Header | Route::Board => {
+            caged(real, manner, |board| unsafe { through_look_number(board, manner.by_board(), line) })
+        }
         Route::Safe => Ok(lent(real).look_number(line)),
     }
 }
@@ -236,30 +260,31 @@ pub fn look_number(real: &mut Real, line: u64, manner: &Manner) -> Result<u32, S
 unsafe fn raw_call(real: &mut Real, call: &Call, manner: &Manner) -> Answer {
     let b = CBoard::of(real, manner.null);
     let (set, name) = (real.set.pointer(false), real.name.pointer(false));
-    let packed = match *call {
+    let kind = |store| ffi::Kind { store: manner.flag(store) };
+    let permission = |write| ffi::Permission { write: manner.flag(write) };
+    let answer = match *call {
         Call::UserAccess { process, store, width, address, value } => {
-            let store = manner.flag(store);
-            raw!(b, oaledva_user_access, b.set, b.name, process as usize, store, width, address, value)
+            raw!(b, oaledva_user_access, b.tag, process as usize, kind(store), width, address, value)
         }
         Call::SupervisorAccess { store, width, global, value } => {
-            raw!(b, oaledva_supervisor_access, b.set, b.name, manner.flag(store), width, global, value)
+            raw!(b, oaledva_supervisor_access, b.tag, kind(store), width, global, value)
         }
         Call::Attach { process, slot, segment, write } => {
-            raw!(b, oaledva_attach, process as usize, slot as usize, segment, manner.flag(write))
+            raw!(b, oaledva_attach, process as usize, slot as usize, segment, permission(write))
         }
         Call::Detach { process, slot } => raw!(b, oaledva_detach, process as usize, slot as usize),
-        Call::Map { page, frame, write } => raw!(b, oaledva_map, page, frame as usize, manner.flag(write)),
+        Call::Map { page, frame, write } => raw!(b, oaledva_map, page, frame as usize, permission(write)),
         Call::Unmap { page } => raw!(b, oaledva_unmap, page),
-        Call::Protect { page, write } => raw!(b, oaledva_protect, page, manner.flag(write)),
+        Call::Protect { page, write } => raw!(b, oaledva_protect, page, permission(write)),
         Call::FlushAll => raw!(b, oaledva_flush_all),
         Call::Tag { name: line } => raw!(b, oaledva_tag, set, name, line),
         Call::LoadAndMap { line } => raw!(b, oaledva_load_and_map, set, name, line as usize),
         Call::DropTag => raw!(b, oaledva_drop_tag, set, name),
     };
-    Answer { number: (packed >> 33) as u32, mark: (packed >> 32) as u32 & 1, value: packed as u32 }
+    Answer { number: answer.number(), mark: answer.mark().into(), value: answer.value() }
 }
 
-// ----- through the header -----
+// ----- through C -----
 
 /// A board for C between canaries.
 #[repr(C)]
@@ -277,7 +302,7 @@ impl Cage {
         if self.front != BARS || self.back != BARS {
             return Err("bytes around the C board were written".into());
         }
-        if (CBoard { set: before.set, name: before.name, ..self.board }) != *before {
+        if (CBoard { tag: before.tag, ..self.board }) != *before {
             return Err("the C board's numbers, pointers or lengths were written".into());
         }
         Ok(())
@@ -289,7 +314,7 @@ fn caged<T>(real: &mut Real, manner: &Manner, call: impl FnOnce(*mut CBoard) -> 
     let before = CBoard::of(real, manner.null);
     let mut cage = Cage { front: BARS, board: before, back: BARS };
     let result = call(&mut cage.board);
-    real.set_tag(cage.board.set, cage.board.name);
+    real.set_tag(cage.board.tag.set, cage.board.tag.name);
     cage.check(&before).map(|()| result)
 }
 
@@ -305,28 +330,29 @@ pub fn cage_shows(real: &mut Real) -> bool {
         && shows(|cage| cage.back[0] ^= 1)
         && shows(|cage| cage.board.lines += 1)
         && shows(|cage| cage.board.memory_length += 1)
-        && !shows(|cage| cage.board.name ^= 1)
+        && !shows(|cage| cage.board.tag.name ^= 1)
 }
 
-unsafe fn header_call(b: *mut CBoard, call: &Call, manner: &Manner) -> Answer {
+unsafe fn c_call(b: *mut CBoard, call: &Call, manner: &Manner) -> Answer {
+    let by_board = manner.by_board();
     let answer = match *call {
         Call::UserAccess { process, store, width, address, value } => {
-            through_user_access(b, process as usize, manner.flag(store), width, address, value)
+            through_user_access(b, by_board, process as usize, manner.flag(store), width, address, value)
         }
         Call::SupervisorAccess { store, width, global, value } => {
-            through_supervisor_access(b, manner.flag(store), width, global, value)
+            through_supervisor_access(b, by_board, manner.flag(store), width, global, value)
         }
         Call::Attach { process, slot, segment, write } => {
-            through_attach(b, process as usize, slot as usize, segment, manner.flag(write))
+            through_attach(b, by_board, process as usize, slot as usize, segment, manner.flag(write))
         }
-        Call::Detach { process, slot } => through_detach(b, process as usize, slot as usize),
-        Call::Map { page, frame, write } => through_map(b, page, frame as usize, manner.flag(write)),
-        Call::Unmap { page } => through_unmap(b, page),
-        Call::Protect { page, write } => through_protect(b, page, manner.flag(write)),
-        Call::FlushAll => through_flush_all(b),
-        Call::Tag { name } => through_tag(b, name),
-        Call::LoadAndMap { line } => through_load_and_map(b, line as usize),
-        Call::DropTag => through_drop_tag(b),
+        Call::Detach { process, slot } => through_detach(b, by_board, process as usize, slot as usize),
+        Call::Map { page, frame, write } => through_map(b, by_board, page, frame as usize, manner.flag(write)),
+        Call::Unmap { page } => through_unmap(b, by_board, page),
+        Call::Protect { page, write } => through_protect(b, by_board, page, manner.flag(write)),
+        Call::FlushAll => through_flush_all(b, by_board),
+        Call::Tag { name } => through_tag(b, by_board, name),
+        Call::LoadAndMap { line } => through_load_and_map(b, by_board, line as usize),
+        Call::DropTag => through_drop_tag(b, by_board),
     };
     Answer { number: answer.number, mark: answer.mark, value: answer.value }
 }

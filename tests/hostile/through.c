@@ -1,12 +1,12 @@
-/* The route through the C header: each call of the library once, on a board as include/oaledva.h declares it. The test in
- * main.rs calls these; they add nothing of their own. */
+/* The two routes through the C header, include/oaledva.h. The test in main.rs calls these; they add nothing of their own. */
 #include "oaledva.h"
+#include <stdbool.h>
 
 typedef struct through_answer {
     uint32_t number, mark, value;
 } through_answer;
 
-static through_answer unpacked(uint64_t answer) {
+static through_answer unpacked(oaledva_answer answer) {
     through_answer parts = {oaledva_number(answer), oaledva_mark(answer), oaledva_value(answer)};
     return parts;
 }
@@ -22,65 +22,85 @@ void through_lengths(size_t frames, size_t processes, size_t lines, size_t lengt
     lengths[4] = OALEDVA_MEMORY(frames);
 }
 
-/* The refusal numbers by their names, 0 to 13, then the limits. */
-void through_constants(size_t constants[18]) {
-    static const size_t all[18] = {
-        OALEDVA_DONE, OALEDVA_SHAPE, OALEDVA_RANGE, OALEDVA_TAG, OALEDVA_ALIGNMENT, OALEDVA_KERNEL, OALEDVA_SLOT_EMPTY,
+/* The refusal numbers by their names, 1 to 13, then the limits. */
+void through_constants(size_t constants[17]) {
+    static const size_t all[17] = {
+        OALEDVA_SHAPE, OALEDVA_RANGE, OALEDVA_TAG, OALEDVA_ALIGNMENT, OALEDVA_KERNEL, OALEDVA_SLOT_EMPTY,
         OALEDVA_SLOT_READ_ONLY, OALEDVA_NOT_MAPPED, OALEDVA_PAGE_READ_ONLY, OALEDVA_FRAME_IN_USE,
         OALEDVA_MAPPED_ALREADY, OALEDVA_OUTSIDE, OALEDVA_OTHER_LINE, OALEDVA_FRAMES_MAX, OALEDVA_PROCESSES_MAX,
         OALEDVA_LINES_MAX, OALEDVA_LINE_BYTES,
     };
-    for (int i = 0; i < 18; i++) constants[i] = all[i];
+    for (int i = 0; i < 17; i++) constants[i] = all[i];
 }
 
-through_answer through_user_access(oaledva_board *b, size_t process, uint32_t store, uint32_t width, uint32_t address,
-                                   uint32_t value) {
-    return unpacked(
-        oaledva_user_access(OALEDVA_LEND(*b), b->set, b->name, process, store, width, address, value));
+/* Each call by either kind of the header's functions: those over a board, or those over each number and buffer. Of the
+ * former a load and a store are two. */
+through_answer through_user_access(oaledva_board *b, bool by_board, size_t process, uint32_t store, uint32_t width,
+                                   uint32_t address, uint32_t value) {
+    oaledva_kind kind = {store};
+    return unpacked(!by_board ? oaledva_user_access(OALEDVA_LEND(*b), b->tag, process, kind, width, address, value)
+                    : store   ? oaledva_board_store(b, process, width, address, value)
+                              : oaledva_board_load(b, process, width, address));
 }
 
-through_answer through_supervisor_access(oaledva_board *b, uint32_t store, uint32_t width, uint64_t address,
-                                         uint32_t value) {
-    return unpacked(oaledva_supervisor_access(OALEDVA_LEND(*b), b->set, b->name, store, width, address, value));
+through_answer through_supervisor_access(oaledva_board *b, bool by_board, uint32_t store, uint32_t width,
+                                         uint64_t address, uint32_t value) {
+    oaledva_kind kind = {store};
+    return unpacked(!by_board ? oaledva_supervisor_access(OALEDVA_LEND(*b), b->tag, kind, width, address, value)
+                    : store   ? oaledva_board_supervisor_store(b, width, address, value)
+                              : oaledva_board_supervisor_load(b, width, address));
 }
 
-through_answer through_attach(oaledva_board *b, size_t process, size_t slot, uint64_t segment, uint32_t write) {
-    return unpacked(oaledva_attach(OALEDVA_LEND(*b), process, slot, segment, write));
+through_answer through_attach(oaledva_board *b, bool by_board, size_t process, size_t slot, uint64_t segment,
+                              uint32_t write) {
+    oaledva_permission permission = {write};
+    return unpacked(by_board ? oaledva_board_attach(b, process, slot, segment, permission)
+                             : oaledva_attach(OALEDVA_LEND(*b), process, slot, segment, permission));
 }
 
-through_answer through_detach(oaledva_board *b, size_t process, size_t slot) {
-    return unpacked(oaledva_detach(OALEDVA_LEND(*b), process, slot));
+through_answer through_detach(oaledva_board *b, bool by_board, size_t process, size_t slot) {
+    return unpacked(by_board ? oaledva_board_detach(b, process, slot) : oaledva_detach(OALEDVA_LEND(*b), process, slot));
 }
 
-through_answer through_map(oaledva_board *b, uint64_t page, size_t frame, uint32_t write) {
-    return unpacked(oaledva_map(OALEDVA_LEND(*b), page, frame, write));
+through_answer through_map(oaledva_board *b, bool by_board, uint64_t page, size_t frame, uint32_t write) {
+    oaledva_permission permission = {write};
+    return unpacked(by_board ? oaledva_board_map(b, page, frame, permission)
+                             : oaledva_map(OALEDVA_LEND(*b), page, frame, permission));
 }
 
-through_answer through_unmap(oaledva_board *b, uint64_t page) {
-    return unpacked(oaledva_unmap(OALEDVA_LEND(*b), page));
+through_answer through_unmap(oaledva_board *b, bool by_board, uint64_t page) {
+    return unpacked(by_board ? oaledva_board_unmap(b, page) : oaledva_unmap(OALEDVA_LEND(*b), page));
 }
 
-through_answer through_protect(oaledva_board *b, uint64_t page, uint32_t write) {
-    return unpacked(oaledva_protect(OALEDVA_LEND(*b), page, write));
+through_answer through_protect(oaledva_board *b, bool by_board, uint64_t page, uint32_t write) {
+    oaledva_permission permission = {write};
+    return unpacked(by_board ? oaledva_board_protect(b, page, permission)
+                             : oaledva_protect(OALEDVA_LEND(*b), page, permission));
 }
 
-through_answer through_flush_all(oaledva_board *b) { return unpacked(oaledva_flush_all(OALEDVA_LEND(*b))); }
-
-through_answer through_tag(oaledva_board *b, uint64_t line) {
-    return unpacked(oaledva_tag(OALEDVA_LEND(*b), OALEDVA_TAG_OF(*b), line));
+through_answer through_flush_all(oaledva_board *b, bool by_board) {
+    return unpacked(by_board ? oaledva_board_flush_all(b) : oaledva_flush_all(OALEDVA_LEND(*b)));
 }
 
-through_answer through_load_and_map(oaledva_board *b, size_t line) {
-    return unpacked(oaledva_load_and_map(OALEDVA_LEND(*b), OALEDVA_TAG_OF(*b), line));
+through_answer through_tag(oaledva_board *b, bool by_board, uint64_t line) {
+    return unpacked(by_board ? oaledva_board_tag(b, line) : oaledva_tag(OALEDVA_LEND(*b), OALEDVA_TAG_OF(*b), line));
 }
 
-through_answer through_drop_tag(oaledva_board *b) {
-    return unpacked(oaledva_drop_tag(OALEDVA_LEND(*b), OALEDVA_TAG_OF(*b)));
+through_answer through_load_and_map(oaledva_board *b, bool by_board, size_t line) {
+    return unpacked(by_board ? oaledva_board_load_and_map(b, line)
+                             : oaledva_load_and_map(OALEDVA_LEND(*b), OALEDVA_TAG_OF(*b), line));
+}
+
+through_answer through_drop_tag(oaledva_board *b, bool by_board) {
+    return unpacked(by_board ? oaledva_board_drop_tag(b) : oaledva_drop_tag(OALEDVA_LEND(*b), OALEDVA_TAG_OF(*b)));
 }
 
 /* Where the bytes stand; NULL where look is refused. */
-const uint8_t *through_look(oaledva_board *b, size_t line) {
+const uint8_t *through_look(oaledva_board *b, bool by_board, size_t line) {
+    if (by_board) return oaledva_board_look(b, line);
     return oaledva_bytes_at(b->cache, b->memory, oaledva_look(OALEDVA_LEND(*b), line));
 }
 
-uint32_t through_look_number(oaledva_board *b, size_t line) { return oaledva_look_number(OALEDVA_LEND(*b), line); }
+uint32_t through_look_number(oaledva_board *b, bool by_board, size_t line) {
+    return (by_board ? oaledva_board_look_number(b, line) : oaledva_look_number(OALEDVA_LEND(*b), line)).number;
+}

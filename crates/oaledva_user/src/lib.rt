@@ -1,4 +1,5 @@
-// User access for C and Rust, alone in its archive: with a second function over the same code the compiler would not inline it.
+// User access for C and Rust, alone in its piece of the library: beside a second function over the same code the compiler would
+// not inline it.
 ghost use Rattle.address.specs.Addresses.{effective};
 ghost use Rattle.machine.specs.Contracts.{before, after, UserAccess};
 ghost use Rattle.crossing.specs.Packing.{unpacked, tagOf, shape, access};

@@ -1,0 +1,178 @@
+/* What the header adds to the library's functions, tried: boards in static buffers and in a block, limits, the calls on a
+ * board, look's bytes. tests/c/run compiles this as C99, C11 and C++17 and runs each. */
+#include <oaledva.h>
+#include <oaledva.h> /* twice is once */
+#include <stdio.h>
+#include <stdlib.h>
+#include <string.h>
+
+#define EXPECT(condition)                                                                                          \
+    do {                                                                                                           \
+        if (!(condition)) {                                                                                        \
+            fprintf(stderr, "tests/c/board.c:%d: not so: %s\n", __LINE__, #condition);                             \
+            exit(1);                                                                                               \
+        }                                                                                                          \
+    } while (0)
+
+#define PAGE ((uint64_t)0x200000)
+
+OALEDVA_STATIC_BOARD(outside, 4, 1, 2, 2);
+OALEDVA_STATIC_BOARD(reckoned, 0 ? 3 : 5, 1 ? 1 : 7, 1 + 2, 2 + 2);
+
+/* An answer as 01's tables write it. */
+static int gives(oaledva_answer answer, uint32_t number, uint32_t value, uint32_t mark) {
+    return oaledva_number(answer) == number && oaledva_value(answer) == value && oaledva_mark(answer) == mark
+           && oaledva_done(answer) == (number == 0);
+}
+
+/* Every call of a board, on a fresh one of F 4, U 1, P 2, L 2. */
+static void every_call(oaledva_board *b) {
+    const uint64_t name = PAGE * 256;
+    const oaledva_permission two = {2}; /* anything but 0 says yes */
+    EXPECT(gives(oaledva_board_map(b, PAGE, 1, OALEDVA_WRITABLE), 0, 0, 0));
+    EXPECT(gives(oaledva_board_attach(b, 1, 511, 2048, OALEDVA_READ_ONLY), 0, 0, 0));
+    EXPECT(gives(oaledva_board_store(b, 1, 4, 511u << 22, 50), OALEDVA_SLOT_READ_ONLY, 0, 0));
+    EXPECT(gives(oaledva_board_attach(b, 1, 511, 2048, OALEDVA_WRITABLE), 0, 0, 0));
+    EXPECT(gives(oaledva_board_store(b, 1, 4, 511u << 22, 0x01020304), 0, 0, 0));
+    EXPECT(gives(oaledva_board_load(b, 1, 1, (511u << 22) + 3), 0, 4, 1));
+    /* A global address is no effective one: not cut to one, but refused by 5, or by less where that applies. */
+    EXPECT(gives(oaledva_board_load(b, 1, 1, PAGE * 4096 + 3), OALEDVA_KERNEL, 0, 0));
+    EXPECT(gives(oaledva_board_store(b, 1, 4, PAGE * 4096, 50), OALEDVA_KERNEL, 0, 0));
+    EXPECT(gives(oaledva_board_load(b, 1, 4, PAGE * 4096 + 3), OALEDVA_ALIGNMENT, 0, 0));
+    EXPECT(gives(oaledva_board_load(b, 2, 1, (uint64_t)1 << 32), OALEDVA_RANGE, 0, 0));
+    EXPECT(gives(oaledva_board_load(b, 1, 1, (uint64_t)1 << 31), OALEDVA_KERNEL, 0, 0));
+    EXPECT(gives(oaledva_board_load(b, 1, 1, ((uint64_t)1 << 32) + (511u << 22) + 3), OALEDVA_KERNEL, 0, 0));
+    EXPECT(gives(oaledva_board_load(b, 1, 1, UINT64_MAX), OALEDVA_KERNEL, 0, 0));
+    EXPECT(oaledva_board_look(b, 256) == b->cache && b->cache[3] == 4 && b->memory[4096 + 3] == 0);
+    EXPECT(gives(oaledva_board_flush_all(b), 0, 0, 0));
+    EXPECT(oaledva_board_look(b, 256) == b->memory + 4096 && b->memory[4096 + 3] == 4);
+    EXPECT(oaledva_board_look(b, 4 * 256) == NULL && oaledva_board_look_number(b, 4 * 256).number == OALEDVA_RANGE);
+    EXPECT(oaledva_board_look_number(b, 4 * 256 - 1).number == 0);
+    EXPECT(gives(oaledva_board_protect(b, PAGE, OALEDVA_READ_ONLY), 0, 0, 0));
+    EXPECT(gives(oaledva_board_store(b, 1, 1, 511u << 22, 1), OALEDVA_PAGE_READ_ONLY, 0, 0));
+    EXPECT(gives(oaledva_board_supervisor_store(b, 2, PAGE * 4096, 0x0a0b), 0, 0, 0));
+    EXPECT(gives(oaledva_board_supervisor_load(b, 4, PAGE * 4096), 0, 0x0a0b0304, 1));
+    EXPECT(gives(oaledva_board_unmap(b, PAGE), 0, 0, 0));
+    EXPECT(gives(oaledva_board_map(b, PAGE, 3, two), 0, 0, 0));
+    EXPECT(gives(oaledva_board_load_and_map(b, 3 * 256), OALEDVA_TAG, 0, 0));
+    EXPECT(gives(oaledva_board_tag(b, name), 0, 0, 0) && b->tag.set == 1 && b->tag.name == name);
+    EXPECT(gives(oaledva_board_load(b, 1, 1, 511u << 22), OALEDVA_TAG, 0, 0));
+    EXPECT(gives(oaledva_board_supervisor_load(b, 1, PAGE * 4096), OALEDVA_TAG, 0, 0));
+    EXPECT(gives(oaledva_board_load_and_map(b, 256), OALEDVA_OTHER_LINE, 0, 0) && b->tag.set == 1);
+    EXPECT(gives(oaledva_board_load_and_map(b, 3 * 256), 0, 0, 0) && b->tag.set == 0 && b->tag.name == 0);
+    EXPECT(gives(oaledva_board_store(b, 1, 1, 511u << 22, 1), 0, 0, 1));
+    EXPECT(gives(oaledva_board_tag(b, name), 0, 0, 0));
+    EXPECT(gives(oaledva_board_drop_tag(b), 0, 0, 0) && b->tag.set == 0 && b->tag.name == 0);
+    EXPECT(gives(oaledva_board_detach(b, 1, 511), 0, 0, 0));
+    EXPECT(gives(oaledva_board_load(b, 1, 1, 511u << 22), OALEDVA_SLOT_EMPTY, 0, 0));
+}
+
+/* The numbers and the lengths of a board, and no tag. */
+static void has(const oaledva_board *b, size_t frames, size_t uncached, size_t processes, size_t lines) {
+    EXPECT(b->frames == frames && b->uncached == uncached && b->processes == processes && b->lines == lines);
+    EXPECT(b->slots_length == 512 * processes && b->words_length == frames && b->records_length == 2 * lines);
+    EXPECT(b->cache_length == 16 * lines && b->memory_length == 4096 * frames);
+    EXPECT(b->tag.set == 0 && b->tag.name == 0);
+}
+
+/* A static board, its numbers written as expressions: each buffer is an array of just its length. */
+static void in_static_buffers(void) {
+    has(&reckoned, 5, 1, 3, 4);
+    EXPECT(reckoned.slots == reckoned_slots && sizeof reckoned_slots == 4 * 512 * 3);
+    EXPECT(reckoned.words == reckoned_words && sizeof reckoned_words == 8 * 5);
+    EXPECT(reckoned.records == reckoned_records && sizeof reckoned_records == 8 * 2 * 4);
+    EXPECT(reckoned.cache == reckoned_cache && sizeof reckoned_cache == 16 * 4);
+    EXPECT(reckoned.memory == reckoned_memory && sizeof reckoned_memory == 4096 * 5);
+    EXPECT(gives(oaledva_board_flush_all(&reckoned), 0, 0, 0));
+    EXPECT(OALEDVA_STATIC_FRAMES_MAX == 262144);
+}
+
+/* The buffers of a board in a block: in this order, without gaps, to the end. */
+static void lies_in(const oaledva_board *b, const void *block, size_t bytes) {
+    has(b, 4, 1, 2, 2);
+    EXPECT((const void *)b->words == block && b->records == b->words + 4);
+    EXPECT((const void *)b->slots == b->records + 4 && (const void *)b->cache == b->slots + 1024);
+    EXPECT(b->memory == b->cache + 32 && b->memory + 4096 * 4 == (const uint8_t *)block + bytes);
+}
+
+/* A board without buffers: every call is refused by 1. */
+static void has_none(oaledva_board *b) {
+    EXPECT(b->slots == NULL && b->words == NULL && b->records == NULL && b->cache == NULL && b->memory == NULL);
+    EXPECT(gives(oaledva_board_load(b, 0, 1, 0), OALEDVA_SHAPE, 0, 0));
+    EXPECT(gives(oaledva_board_flush_all(b), OALEDVA_SHAPE, 0, 0));
+    EXPECT(gives(oaledva_board_drop_tag(b), OALEDVA_SHAPE, 0, 0));
+    EXPECT(oaledva_board_look(b, 0) == NULL && oaledva_board_look_number(b, 0).number == OALEDVA_SHAPE);
+}
+
+static void in_a_block(void) {
+    const size_t bytes = oaledva_board_bytes(4, 1, 2, 2), all = 8 + bytes + 8;
+    uint8_t *const room = (uint8_t *)malloc(all), *const block = room + 8;
+    oaledva_board b;
+    EXPECT(room != NULL);
+    memset(room, 0xa5, all);
+    EXPECT(gives(oaledva_board_over(&b, 4, 1, 2, 2, block, bytes), 0, 0, 0));
+    lies_in(&b, block, bytes);
+    for (size_t i = 0; i < all; i++) EXPECT(room[i] == 0xa5);
+
+    EXPECT(gives(oaledva_board_fresh(&b, 4, 1, 2, 2, block, bytes + 8), 0, 0, 0));
+    lies_in(&b, block, bytes);
+    for (size_t i = 0; i < all; i++) EXPECT(room[i] == (i < 8 || i >= 8 + bytes ? 0xa5 : 0));
+
+    every_call(&b);
+    for (size_t i = 0; i < 8; i++) EXPECT(room[i] == 0xa5 && block[bytes + i] == 0xa5);
+
+    /* Refused: too few bytes, no block, not aligned, a number out of its limits. No byte of the block changes. */
+    memset(room, 0xa5, all);
+    EXPECT(gives(oaledva_board_fresh(&b, 4, 1, 2, 2, block, bytes - 1), OALEDVA_SHAPE, 0, 0));
+    has_none(&b);
+    EXPECT(gives(oaledva_board_fresh(&b, 4, 1, 2, 2, NULL, bytes), OALEDVA_SHAPE, 0, 0));
+    has_none(&b);
+    EXPECT(gives(oaledva_board_fresh(&b, 4, 1, 2, 2, block + 4, bytes), OALEDVA_SHAPE, 0, 0));
+    has_none(&b);
+    EXPECT(gives(oaledva_board_fresh(&b, 4, 5, 2, 2, block, bytes), OALEDVA_SHAPE, 0, 0));
+    has_none(&b);
+    EXPECT(gives(oaledva_board_over(&b, 4, 1, 2, 3, block, bytes), OALEDVA_SHAPE, 0, 0));
+    has_none(&b);
+    for (size_t i = 0; i < all; i++) EXPECT(room[i] == 0xa5);
+    free(room);
+}
+
+/* The limits here are the library's: look is refused where they say so, whatever fits otherwise. */
+static void limits(void) {
+    static const size_t frames[] = {0, 1, 4}, processes[] = {0, 1, 16, 17}, lines[] = {0, 1, 2, 3, 32768, 65536};
+    static uint32_t slots[OALEDVA_SLOTS(17)];
+    static uint64_t words[OALEDVA_WORDS(4)], records[OALEDVA_RECORDS(65536)];
+    static uint8_t cache[OALEDVA_CACHE(65536)], memory[OALEDVA_MEMORY(4)];
+    for (int i = 0; i < 3 * 3 * 4 * 6; i++) {
+        const size_t F = frames[i % 3], U = i / 3 % 3 == 0 ? 0 : F + (size_t)(i / 3 % 3) - 1;
+        const size_t P = processes[i / 9 % 4], L = lines[i / 36];
+        const oaledva_board b = {F,      U, P, L, slots, OALEDVA_SLOTS(P), words, OALEDVA_WORDS(F), records, OALEDVA_RECORDS(L),
+                                 cache, OALEDVA_CACHE(L), memory, OALEDVA_MEMORY(F), {0, 0}};
+        const int keeps = OALEDVA_KEEPS_LIMITS(F, U, P, L);
+        EXPECT(keeps == (oaledva_board_look_number(&b, 0).number == 0));
+        EXPECT(keeps == (oaledva_board_bytes(F, U, P, L) != 0));
+    }
+    /* Expressions as numbers, and arrays that do not fit. */
+    EXPECT(!OALEDVA_KEEPS_LIMITS(1 ? 4 : 0, 0, 17, 1) && !OALEDVA_KEEPS_LIMITS(4, 1 ? 5 : 0, 1, 1));
+    EXPECT(OALEDVA_KEEPS_LIMITS(4, 1, 0 ? 0 : 1, 3 ^ 1) && !OALEDVA_KEEPS_LIMITS(4, 1, 1, 2 | 1));
+    {
+        oaledva_board fits = OALEDVA_BOARD(4, 1, 17 - 1, 65536 / 2, slots, words, records, cache, memory);
+        EXPECT(gives(oaledva_board_flush_all(&fits), OALEDVA_SHAPE, 0, 0));
+        fits.slots_length -= 512, fits.records_length /= 2, fits.cache_length /= 2;
+        EXPECT(gives(oaledva_board_flush_all(&fits), 0, 0, 0));
+    }
+    EXPECT(oaledva_board_bytes(4, 1, 2, 2) == 8 * (4 + 4) + 4 * 1024 + 16 * 2 + 4096 * 4);
+    EXPECT(oaledva_board_bytes(OALEDVA_FRAMES_MAX, 0, 16, 32768) == 8 * (1048576 + 65536) + 4 * 8192 + 16 * 32768 + ((uint64_t)1 << 32));
+    EXPECT(oaledva_board_bytes(OALEDVA_FRAMES_MAX + 1, 0, 1, 1) == 0 && oaledva_board_bytes(SIZE_MAX, SIZE_MAX, 1, 1) == 0);
+    EXPECT(oaledva_board_bytes(1, SIZE_MAX, 1, 1) == 0 && oaledva_board_bytes(1, 0, SIZE_MAX, SIZE_MAX) == 0);
+}
+
+int main(void) {
+    OALEDVA_STATIC_BOARD(inside, 4, 1, 2, 2);
+    every_call(&outside);
+    every_call(&inside);
+    in_static_buffers();
+    in_a_block();
+    limits();
+    return 0;
+}

@@ -1,0 +1,45 @@
+/* Every function of the header whose result must be used, and nobody does: one to a line. tests/c/run asks that the compiler
+ * warns of each line with a call, and that no such function is missing here. */
+#include <oaledva.h>
+
+OALEDVA_STATIC_BOARD(b, 4, 1, 2, 2);
+
+void ignore_all(void *block, oaledva_answer a, oaledva_place place);
+void ignore_all(void *block, oaledva_answer a, oaledva_place place) {
+    oaledva_number(a);
+    oaledva_mark(a);
+    oaledva_value(a);
+    oaledva_done(a);
+    oaledva_bytes_at(b.cache, b.memory, place);
+    oaledva_board_bytes(4, 1, 2, 2);
+    oaledva_user_access(OALEDVA_LEND(b), b.tag, 0, OALEDVA_LOAD, 4, 0, 0);
+    oaledva_supervisor_access(OALEDVA_LEND(b), b.tag, OALEDVA_LOAD, 4, 0, 0);
+    oaledva_attach(OALEDVA_LEND(b), 0, 0, 2048, OALEDVA_WRITABLE);
+    oaledva_detach(OALEDVA_LEND(b), 0, 0);
+    oaledva_map(OALEDVA_LEND(b), 0x200000, 1, OALEDVA_WRITABLE);
+    oaledva_unmap(OALEDVA_LEND(b), 0x200000);
+    oaledva_protect(OALEDVA_LEND(b), 0x200000, OALEDVA_READ_ONLY);
+    oaledva_flush_all(OALEDVA_LEND(b));
+    oaledva_tag(OALEDVA_LEND(b), OALEDVA_TAG_OF(b), 0x20000000);
+    oaledva_load_and_map(OALEDVA_LEND(b), OALEDVA_TAG_OF(b), 256);
+    oaledva_drop_tag(OALEDVA_LEND(b), OALEDVA_TAG_OF(b));
+    oaledva_look(OALEDVA_LEND(b), 256);
+    oaledva_look_number(OALEDVA_LEND(b), 256);
+    oaledva_board_over(&b, 4, 1, 2, 2, block, 0);
+    oaledva_board_fresh(&b, 4, 1, 2, 2, block, 0);
+    oaledva_board_load(&b, 0, 4, 0);
+    oaledva_board_store(&b, 0, 4, 0, 50);
+    oaledva_board_supervisor_load(&b, 4, 0);
+    oaledva_board_supervisor_store(&b, 4, 0, 50);
+    oaledva_board_attach(&b, 0, 0, 2048, OALEDVA_WRITABLE);
+    oaledva_board_detach(&b, 0, 0);
+    oaledva_board_map(&b, 0x200000, 1, OALEDVA_WRITABLE);
+    oaledva_board_unmap(&b, 0x200000);
+    oaledva_board_protect(&b, 0x200000, OALEDVA_READ_ONLY);
+    oaledva_board_flush_all(&b);
+    oaledva_board_tag(&b, 0x20000000);
+    oaledva_board_load_and_map(&b, 256);
+    oaledva_board_drop_tag(&b);
+    oaledva_board_look(&b, 256);
+    oaledva_board_look_number(&b, 256);
+}
