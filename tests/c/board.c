@@ -146,8 +146,8 @@ static void limits(void) {
     for (int i = 0; i < 3 * 3 * 4 * 6; i++) {
         const size_t F = frames[i % 3], U = i / 3 % 3 == 0 ? 0 : F + (size_t)(i / 3 % 3) - 1;
         const size_t P = processes[i / 9 % 4], L = lines[i / 36];
-        const oaledva_board b = {F,      U, P, L, slots, OALEDVA_SLOTS(P), words, OALEDVA_WORDS(F), records, OALEDVA_RECORDS(L),
-                                 cache, OALEDVA_CACHE(L), memory, OALEDVA_MEMORY(F), {0, 0}};
+        const oaledva_board b = {F, U, P, L, slots, OALEDVA_SLOTS(P), words, OALEDVA_WORDS(F), records,
+                                 OALEDVA_RECORDS(L), cache, OALEDVA_CACHE(L), memory, OALEDVA_MEMORY(F), {0, 0}};
         const int keeps = OALEDVA_KEEPS_LIMITS(F, U, P, L);
         EXPECT(keeps == (oaledva_board_look_number(&b, 0).number == 0));
         EXPECT(keeps == (oaledva_board_bytes(F, U, P, L) != 0));
@@ -156,13 +156,14 @@ static void limits(void) {
     EXPECT(!OALEDVA_KEEPS_LIMITS(1 ? 4 : 0, 0, 17, 1) && !OALEDVA_KEEPS_LIMITS(4, 1 ? 5 : 0, 1, 1));
     EXPECT(OALEDVA_KEEPS_LIMITS(4, 1, 0 ? 0 : 1, 3 ^ 1) && !OALEDVA_KEEPS_LIMITS(4, 1, 1, 2 | 1));
     {
-        oaledva_board fits = OALEDVA_BOARD(4, 1, 17 - 1, 65536 / 2, slots, words, records, cache, memory);
-        EXPECT(gives(oaledva_board_flush_all(&fits), OALEDVA_SHAPE, 0, 0));
-        fits.slots_length -= 512, fits.records_length /= 2, fits.cache_length /= 2;
-        EXPECT(gives(oaledva_board_flush_all(&fits), 0, 0, 0));
+        oaledva_board board = OALEDVA_BOARD(4, 1, 17 - 1, 65536 / 2, slots, words, records, cache, memory);
+        EXPECT(gives(oaledva_board_flush_all(&board), OALEDVA_SHAPE, 0, 0));
+        board.slots_length -= 512, board.records_length /= 2, board.cache_length /= 2;
+        EXPECT(gives(oaledva_board_flush_all(&board), 0, 0, 0));
     }
     EXPECT(oaledva_board_bytes(4, 1, 2, 2) == 8 * (4 + 4) + 4 * 1024 + 16 * 2 + 4096 * 4);
-    EXPECT(oaledva_board_bytes(OALEDVA_FRAMES_MAX, 0, 16, 32768) == 8 * (1048576 + 65536) + 4 * 8192 + 16 * 32768 + ((uint64_t)1 << 32));
+    EXPECT(oaledva_board_bytes(OALEDVA_FRAMES_MAX, 0, 16, 32768)
+           == 8 * (1048576 + 65536) + 4 * 8192 + 16 * 32768 + ((uint64_t)1 << 32));
     EXPECT(oaledva_board_bytes(OALEDVA_FRAMES_MAX + 1, 0, 1, 1) == 0 && oaledva_board_bytes(SIZE_MAX, SIZE_MAX, 1, 1) == 0);
     EXPECT(oaledva_board_bytes(1, SIZE_MAX, 1, 1) == 0 && oaledva_board_bytes(1, 0, SIZE_MAX, SIZE_MAX) == 0);
 }
