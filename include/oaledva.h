@@ -35,7 +35,7 @@
 #ifndef OALEDVA_H
 #define OALEDVA_H
 
-#if !defined(__x86_64__) || defined(__ILP32__) || defined(_WIN32) || defined(__CYGWIN__)
+#if !defined(__x86_64__) || defined(__ILP32__) || !defined(__linux__)
 #error "liboaledva.a is for x86-64 Linux with 64-bit pointers"
 #endif
 
@@ -119,8 +119,8 @@ enum {
 
 /* ---- answers
  * What a call gives: number * 2^33 + mark * 2^32 + value, as one number in a type of its own. Nothing compares it, converts
- * it or tests it by mistake; the functions below take it apart. The mark is 1 where an access found its line held. The
- * compiler warns of a call whose answer is thrown away; to do so on purpose, write if (oaledva_done(...)) {}. */
+ * it or tests it by mistake; the functions below take it apart. Only calls make one. The mark is 1 where an access found its
+ * line held. The compiler warns of a call whose answer is thrown away; to do so on purpose, write if (oaledva_done(...)) {}. */
 typedef struct OALEDVA_MUST_USE_TYPE oaledva_answer {
     uint64_t packed;
 } oaledva_answer;
@@ -146,14 +146,16 @@ typedef struct OALEDVA_MUST_USE_TYPE oaledva_looked {
 } oaledva_looked;
 
 /* The sixteen bytes at such a place; NULL where look was refused. */
-OALEDVA_MUST_USE static inline const uint8_t *oaledva_bytes_at(const uint8_t *cache, const uint8_t *memory, oaledva_place place) {
+OALEDVA_MUST_USE static inline const uint8_t *oaledva_bytes_at(
+    const uint8_t *cache, const uint8_t *memory, oaledva_place place) {
     if (place.at == OALEDVA_NOWHERE) return NULL;
     return place.at < OALEDVA_IN_MEMORY ? cache + place.at : memory + (place.at - OALEDVA_IN_MEMORY);
 }
 
 /* ---- what a call is told, in types of their own, so that no number is taken for them
  * A load or a store; read-only or writable. Each is a number, of which 0 is no and anything else is yes: where it comes from
- * a variable, write (oaledva_permission){w != 0} in C, oaledva_permission{w != 0} in C++. */
+ * a variable, write (oaledva_permission){w != 0} in C, oaledva_permission{w != 0} in C++. In the initialiser of static data
+ * write {0} or {1}: not every C compiler takes the names below there. */
 typedef struct oaledva_kind {
     uint32_t store;
 } oaledva_kind;
@@ -165,7 +167,8 @@ typedef struct oaledva_permission {
 static const oaledva_kind OALEDVA_LOAD = {0}, OALEDVA_STORE = {1};
 static const oaledva_permission OALEDVA_READ_ONLY = {0}, OALEDVA_WRITABLE = {1};
 
-/* The tag: set is not 0 where one is pending, and name is its line name. Begin with {0, 0} and let the calls change it. */
+/* The tag: set is not 0 where one is pending, and name is its line name. Begin with {0, 0} and let the calls change it; who
+ * fills it by hand names the fields. */
 typedef struct oaledva_pending {
     uint32_t set;
     uint64_t name;
@@ -338,7 +341,7 @@ typedef struct oaledva_board {
     oaledva_pending tag;
 } oaledva_board;
 
-/* The fourteen arguments that every function above takes first, and the tag's two, where a call may change it. `b` is written
+/* The fourteen arguments that every call above takes first, and the tag's two, where a call may change it. `b` is written
  * out fourteen times: let it be a name, or *name. */
 #define OALEDVA_LEND(b)                                                                                            \
     (b).frames, (b).uncached, (b).processes, (b).lines, (b).slots, (b).slots_length, (b).words, (b).words_length,  \
@@ -373,8 +376,9 @@ OALEDVA_MUST_USE static inline size_t oaledva_board_bytes(size_t frames, size_t 
 }
 
 /* Makes *b the board that stands in a block of `bytes` bytes, with no tag pending: from its start words, records, slots,
- * cache and memory, without gaps. No byte of the block is changed. The block is malloc's or the like (aligned to 8) and stays
- * the caller's, to be freed when the board is no longer used.
+ * cache and memory, without gaps. No byte of the block is changed; a board that goes on with a tag pending needs it put back
+ * into b->tag. The block is malloc's or the like (aligned to 8) and stays the caller's, to be freed when the board is no longer
+ * used.
  * Refused by 1: a number out of its limits, too few bytes, NULL or not aligned. Then *b has no buffers, and every call on it
  * is refused by 1 too. */
 OALEDVA_MUST_USE static inline oaledva_answer oaledva_board_over(
@@ -412,7 +416,8 @@ OALEDVA_MUST_USE static inline oaledva_answer oaledva_board_fresh(
 
 /* ---- the calls on a board, with its own tag. What they do, and by which numbers they are refused, is said above: loads and
  * stores at the accesses, the others at the function of that name without `board`.
- * A user's accesses, by effective address: any from 2^31 up, and so a global one, is refused by 5. */
+ * A user's accesses, by effective address: any from 2^31 up is refused by 5, also one that does not fit 32 bits, as the global
+ * address of an ordinary page. */
 static inline uint32_t oaledva_effective(uint64_t address) {
     return (uint32_t)address | (address >> 32 != 0 ? UINT32_C(1) << 31 : 0);
 }

@@ -1,5 +1,5 @@
 /* What the header adds to the library's functions, tried: boards in static buffers and in a block, limits, the calls on a
- * board, look's bytes. tests/c/run compiles this as C99, C11 and C++17 and runs each. */
+ * board, look's bytes. tests/c/run compiles this as C99, C11, C++11 and C++17 and runs each. */
 #include <oaledva.h>
 #include <oaledva.h> /* twice is once */
 #include <stdio.h>
@@ -35,7 +35,8 @@ static void every_call(oaledva_board *b) {
     EXPECT(gives(oaledva_board_attach(b, 1, 511, 2048, OALEDVA_WRITABLE), 0, 0, 0));
     EXPECT(gives(oaledva_board_store(b, 1, 4, 511u << 22, 0x01020304), 0, 0, 0));
     EXPECT(gives(oaledva_board_load(b, 1, 1, (511u << 22) + 3), 0, 4, 1));
-    /* A global address is no effective one: not cut to one, but refused by 5, or by less where that applies. */
+    /* An address that does not fit 32 bits, as a global one of an ordinary page, is not cut: it is refused by 5, or by a lower
+     * number that applies. */
     EXPECT(gives(oaledva_board_load(b, 1, 1, PAGE * 4096 + 3), OALEDVA_KERNEL, 0, 0));
     EXPECT(gives(oaledva_board_store(b, 1, 4, PAGE * 4096, 50), OALEDVA_KERNEL, 0, 0));
     EXPECT(gives(oaledva_board_load(b, 1, 4, PAGE * 4096 + 3), OALEDVA_ALIGNMENT, 0, 0));
@@ -57,7 +58,9 @@ static void every_call(oaledva_board *b) {
     EXPECT(gives(oaledva_board_load_and_map(b, 3 * 256), OALEDVA_TAG, 0, 0));
     EXPECT(gives(oaledva_board_tag(b, name), 0, 0, 0) && b->tag.set == 1 && b->tag.name == name);
     EXPECT(gives(oaledva_board_load(b, 1, 1, 511u << 22), OALEDVA_TAG, 0, 0));
+    EXPECT(gives(oaledva_board_store(b, 1, 1, 511u << 22, 1), OALEDVA_TAG, 0, 0));
     EXPECT(gives(oaledva_board_supervisor_load(b, 1, PAGE * 4096), OALEDVA_TAG, 0, 0));
+    EXPECT(gives(oaledva_board_supervisor_store(b, 1, PAGE * 4096, 1), OALEDVA_TAG, 0, 0));
     EXPECT(gives(oaledva_board_load_and_map(b, 256), OALEDVA_OTHER_LINE, 0, 0) && b->tag.set == 1);
     EXPECT(gives(oaledva_board_load_and_map(b, 3 * 256), 0, 0, 0) && b->tag.set == 0 && b->tag.name == 0);
     EXPECT(gives(oaledva_board_store(b, 1, 1, 511u << 22, 1), 0, 0, 1));

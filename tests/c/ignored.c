@@ -1,5 +1,5 @@
-/* Every function of the header whose result must be used, and nobody does: one to a line. tests/c/run asks that the compiler
- * warns of each line with a call, and that no such function is missing here. */
+/* Every function of the header whose result must be used, with its result ignored: one to a line. tests/c/run asks that the
+ * compiler warns of each line with a call, and that no such function is missing here. */
 #include <oaledva.h>
 
 OALEDVA_STATIC_BOARD(b, 4, 1, 2, 2);
