@@ -11,7 +11,7 @@
  * the call's definition in crates/machine/specs gives of the buffers and the tag before it. A shape or a length that does not
  * agree is no fault of the caller's: the call answers number 1 and changes nothing.
  *
- * What the proof rests on, and nothing checks:
+ * What the proof rests on, and no proof checks:
  *   - each pointer points to as many elements as the length after it says, readable, and writable where the prototype has
  *     no const. Lengths count elements, not bytes. Where the length is 0 the pointer may be NULL. `set` and `name` of the
  *     calls on the tag have no length: each points to one element and is never NULL;
@@ -86,14 +86,19 @@ extern "C" {
      && OALEDVA_SIZE(P) >= 1 && OALEDVA_SIZE(P) <= OALEDVA_PROCESSES_MAX && OALEDVA_SIZE(L) >= 1                   \
      && OALEDVA_SIZE(L) <= OALEDVA_LINES_MAX && (OALEDVA_SIZE(L) & (OALEDVA_SIZE(L) - 1)) == 0)
 
-/* The buffers' lengths, in elements. */
-#define OALEDVA_SLOTS(P) (512 * OALEDVA_SIZE(P))   /* uint32_t: 512 slot words a process; segment * 2 + write bit, or 0 */
-#define OALEDVA_WORDS(F) OALEDVA_SIZE(F)           /* uint64_t: a word for each frame; page * 4 + 2 * write bit + 1, or 0 */
-#define OALEDVA_RECORDS(L) (2 * OALEDVA_SIZE(L))   /* uint64_t: two words for each line: the name; physical line * 8
-                                                      + 4 * changed + 2 * write + valid */
-#define OALEDVA_CACHE(L) (16 * OALEDVA_SIZE(L))    /* uint8_t: the bytes of the lines */
-#define OALEDVA_MEMORY(F) (4096 * OALEDVA_SIZE(F)) /* uint8_t: the bytes of the frames */
 #define OALEDVA_LINE_BYTES 16
+
+/* The buffers' lengths, in elements:
+ *   slots    uint32_t: 512 slot words for each process; segment * 2 + write bit, or 0
+ *   words    uint64_t: a word for each frame; page * 4 + 2 * write bit + 1, or 0
+ *   records  uint64_t: two words for each line: the name; physical line * 8 + 4 * changed + 2 * write + valid
+ *   cache    uint8_t: the bytes of the lines
+ *   memory   uint8_t: the bytes of the frames */
+#define OALEDVA_SLOTS(P) (512 * OALEDVA_SIZE(P))
+#define OALEDVA_WORDS(F) OALEDVA_SIZE(F)
+#define OALEDVA_RECORDS(L) (2 * OALEDVA_SIZE(L))
+#define OALEDVA_CACHE(L) (OALEDVA_LINE_BYTES * OALEDVA_SIZE(L))
+#define OALEDVA_MEMORY(F) (4096 * OALEDVA_SIZE(F))
 
 /* A fresh board: slots and words 0, no record valid (zeros will do), no tag pending; cache and memory may hold any bytes. */
 
@@ -125,8 +130,15 @@ typedef struct OALEDVA_MUST_USE_TYPE oaledva_answer {
     uint64_t packed;
 } oaledva_answer;
 
-OALEDVA_MUST_USE static inline uint32_t oaledva_number(oaledva_answer answer) { return (uint32_t)(answer.packed >> 33); }
-OALEDVA_MUST_USE static inline uint32_t oaledva_mark(oaledva_answer answer) { return (uint32_t)(answer.packed >> 32) & 1; }
+#define OALEDVA_NUMBER_AT 33
+#define OALEDVA_MARK_AT 32
+
+OALEDVA_MUST_USE static inline uint32_t oaledva_number(oaledva_answer answer) {
+    return (uint32_t)(answer.packed >> OALEDVA_NUMBER_AT);
+}
+OALEDVA_MUST_USE static inline uint32_t oaledva_mark(oaledva_answer answer) {
+    return (uint32_t)(answer.packed >> OALEDVA_MARK_AT) & 1;
+}
 OALEDVA_MUST_USE static inline uint32_t oaledva_value(oaledva_answer answer) { return (uint32_t)answer.packed; }
 /* 1 where the call was done (number 0), 0 where it was refused. */
 OALEDVA_MUST_USE static inline int oaledva_done(oaledva_answer answer) { return oaledva_number(answer) == 0; }
@@ -383,7 +395,7 @@ OALEDVA_MUST_USE static inline size_t oaledva_board_bytes(size_t frames, size_t 
  * is refused by 1 too. */
 OALEDVA_MUST_USE static inline oaledva_answer oaledva_board_over(
     oaledva_board *b, size_t frames, size_t uncached, size_t processes, size_t lines, void *block, size_t bytes) {
-    const oaledva_answer done = {0}, refused = {(uint64_t)OALEDVA_SHAPE << 33};
+    const oaledva_answer done = {0}, refused = {(uint64_t)OALEDVA_SHAPE << OALEDVA_NUMBER_AT};
     const size_t needed = oaledva_board_bytes(frames, uncached, processes, lines);
     if (needed != 0 && bytes >= needed && block != NULL && (uintptr_t)block % sizeof(uint64_t) == 0) {
         uint64_t *const words = (uint64_t *)block;

@@ -164,11 +164,13 @@ calls! {
     /// Empties a slot of a process.
     fn oaledva_detach(write slots, read words, read records, read cache, read memory, process: usize, slot: usize) -> Answer;
     /// Maps a page to a frame.
-    fn oaledva_map(read slots, write words, write records, read cache, write memory, page: u64, frame: usize, permission: Permission) -> Answer;
+    fn oaledva_map(read slots, write words, write records, read cache, write memory,
+        page: u64, frame: usize, permission: Permission) -> Answer;
     /// Unmaps a page.
     fn oaledva_unmap(read slots, write words, write records, read cache, write memory, page: u64) -> Answer;
     /// Changes a page's write bit.
-    fn oaledva_protect(read slots, write words, write records, read cache, write memory, page: u64, permission: Permission) -> Answer;
+    fn oaledva_protect(read slots, write words, write records, read cache, write memory,
+        page: u64, permission: Permission) -> Answer;
     /// Writes back every changed line and drops all.
     fn oaledva_flush_all(read slots, read words, write records, read cache, write memory) -> Answer;
     /// Remembers a line name.
