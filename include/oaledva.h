@@ -4,12 +4,13 @@
  *
  * Most programs keep their board in an oaledva_board and use the functions oaledva_board_... at the end of this file. The
  * functions before those take each number and each buffer by itself, for programs that hold the buffers elsewhere; what a
- * call does, and by which numbers it is refused, is said there.
+ * call does, and by which numbers it is refused, is said there. One function takes no board: oaledva_entry_of_page.
  *
  * What is proved of each call, for whatever numbers and buffer lengths the caller brings: on the language's own machine it
  * ends, it takes no step outside the buffers that it is lent, and the answer, the buffers and the tag after it are those that
  * the call's definition in crates/machine/specs gives of the buffers and the tag before it. A shape or a length that does not
- * agree is no fault of the caller's: the call answers number 1 and changes nothing.
+ * agree is no fault of the caller's: the call answers number 1 and changes nothing. (oaledva_entry_of_page has no buffers,
+ * and its definition is in crates/address/specs.)
  *
  * What the proof rests on, and no proof checks:
  *   - each pointer points to as many elements as the length after it says, readable, and writable where the prototype has
@@ -162,6 +163,23 @@ OALEDVA_MUST_USE static inline const uint8_t *oaledva_bytes_at(
     const uint8_t *cache, const uint8_t *memory, oaledva_place place) {
     if (place.at == OALEDVA_NOWHERE) return NULL;
     return place.at < OALEDVA_IN_MEMORY ? cache + place.at : memory + (place.at - OALEDVA_IN_MEMORY);
+}
+
+/* What asking for the page table entry of a page gives: number * 2^44 + the entry's global address. It is no answer. */
+typedef struct OALEDVA_MUST_USE_TYPE oaledva_entry {
+    uint64_t packed;
+} oaledva_entry;
+
+#define OALEDVA_ENTRY_NUMBER_AT 44
+
+/* 0 where the page has an entry, else why the asking was refused. */
+OALEDVA_MUST_USE static inline uint32_t oaledva_entry_number(oaledva_entry entry) {
+    return (uint32_t)(entry.packed >> OALEDVA_ENTRY_NUMBER_AT);
+}
+/* The entry's global address; 0 where the asking was refused. Ask the number first: no entry stands at 0, but a supervisor's
+ * access takes the address 0, which is memory's first byte under prefix 0. */
+OALEDVA_MUST_USE static inline uint64_t oaledva_entry_address(oaledva_entry entry) {
+    return entry.packed & ((UINT64_C(1) << OALEDVA_ENTRY_NUMBER_AT) - 1);
 }
 
 /* ---- what a call is told, in types of their own, so that no number is taken for them
@@ -336,6 +354,13 @@ OALEDVA_MUST_USE oaledva_looked oaledva_look_number(
     const uint8_t *memory, size_t memory_length,
     size_t physical_line);
 
+/* ==== no board at all
+ * The page table entry of a page (global address / 4096): the global address at which it stands, 1023 * 2^34 + 4 * page. It
+ * asks no board, so it is never refused by 1. Refused by 2: a page below 0x200000, which lies under prefix 0 or 1 and is never
+ * translated, so that it has no entry; and a number from 2^32 up, which is no page. No table is kept there: a supervisor's access
+ * to an entry is refused by 12. */
+OALEDVA_MUST_USE oaledva_entry oaledva_entry_of_page(uint64_t page);
+
 /* ==== a board in one place: the shape, the buffers with their lengths, and the tag. A copy of it shares the buffers but has a
  * tag of its own: keep one, and hand on its address. */
 typedef struct oaledva_board {
@@ -353,8 +378,8 @@ typedef struct oaledva_board {
     oaledva_pending tag;
 } oaledva_board;
 
-/* The fourteen arguments that every call above takes first, and the tag's two, where a call may change it. `b` is written
- * out fourteen times: let it be a name, or *name. */
+/* The fourteen arguments that every call on a board takes first, above, and the tag's two, where a call may change it. `b` is
+ * written out fourteen times: let it be a name, or *name. */
 #define OALEDVA_LEND(b)                                                                                            \
     (b).frames, (b).uncached, (b).processes, (b).lines, (b).slots, (b).slots_length, (b).words, (b).words_length,  \
         (b).records, (b).records_length, (b).cache, (b).cache_length, (b).memory, (b).memory_length

@@ -1,8 +1,8 @@
 //! The functions of `liboaledva.a` as they are, by the prototypes of `include/oaledva.h`. Every call takes the shape (four
 //! numbers) and the five buffers first, each as a pointer and its length in elements; a call says of each buffer whether it
-//! only reads it or may write it. Answers, places, flags and the tag are numbers in types of their own, as in the header: a
-//! type of one number is passed as that number, and [`Pending`] as its two, one after the other, because the six arguments
-//! that go in registers come before it (x86-64 System V).
+//! only reads it or may write it. Only [`oaledva_entry_of_page`] takes no board. Answers, places, entries, flags and the tag
+//! are numbers in types of their own, as in the header: a type of one number is passed as that number, and [`Pending`] as its
+//! two, one after the other, because the six arguments that go in registers come before it (x86-64 System V).
 //!
 //! # Safety
 //! What the proof assumes of the caller: each pointer points to as many elements as its length says (where the length is 0 it
@@ -75,6 +75,28 @@ impl Place {
 pub struct Looked {
     /// 0 for done, else why it was refused.
     pub number: u32,
+}
+
+/// What asking for the page table entry of a page gives: number × 2^44 + the entry's global address, as one number.
+#[derive(Clone, Copy, Debug, PartialEq, Eq)]
+#[must_use]
+#[repr(transparent)]
+pub struct Entry {
+    packed: u64,
+}
+
+impl Entry {
+    const NUMBER_AT: u32 = 44;
+
+    /// 0 where the page has an entry, else why the asking was refused.
+    pub fn number(self) -> u32 {
+        (self.packed >> Self::NUMBER_AT) as u32
+    }
+
+    /// The entry's global address; 0 where the asking was refused, which is a global address too: ask the number first.
+    pub fn address(self) -> u64 {
+        self.packed & ((1 << Self::NUMBER_AT) - 1)
+    }
 }
 
 /// A load or a store: 0 is a load, anything else a store.
@@ -186,4 +208,10 @@ calls! {
     fn oaledva_look(read slots, read words, read records, read cache, read memory, physical_line: usize) -> Place;
     /// The number that look gives: 0, 1 or 2.
     fn oaledva_look_number(read slots, read words, read records, read cache, read memory, physical_line: usize) -> Looked;
+}
+
+#[link(name = "oaledva", kind = "static")]
+extern "C" {
+    /// Where the page table entry of a page stands. Nothing is asked of the number, and no pointer is taken.
+    pub fn oaledva_entry_of_page(page: u64) -> Entry;
 }

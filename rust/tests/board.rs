@@ -1,5 +1,5 @@
-// The safe crate beside the hostile test: limits, words, look's parts, the load in two parts, both kinds of buffers.
-use oaledva::{Board, Lent, Refusal, Shape};
+// The safe crate beside the hostile test: limits, words, look's parts, the load in two parts, both kinds of buffers, entries.
+use oaledva::{entry_of_page, Board, Lent, Refusal, Shape};
 
 const SHAPE: Shape = Shape { frames: 4, uncached: 1, processes: 2, lines: 2 };
 const PAGE: u64 = 0x200000;
@@ -131,4 +131,20 @@ fn a_supervisor_reaches_what_users_cannot() {
     assert_eq!((board.supervisor_load(4, 8), board.memory()[11]), (Ok(77), 77));
     board.detach(0, 0).unwrap();
     assert_eq!(board.load(0, 1, 0), Err(Refusal::SlotEmpty));
+}
+
+/// At the ends of what is refused, and three of 01's.
+#[test]
+fn the_entry_of_a_page() {
+    for (page, address) in [
+        (0x200000, 0xFFC_0080_0000),
+        (0xFFFF_FFFF, 0xFFF_FFFF_FFFC),
+        (0x048D_1401, 0xFFC_1234_5004),
+        (0xFFC_1234_5004 / 4096, 0xFFF_FF04_8D14),
+    ] {
+        assert_eq!(entry_of_page(page), Ok(address), "page {page:#x}");
+    }
+    for page in [0, 1, 0x1F_FFFF, 1 << 32, (1 << 32) + 0x20_0000, u64::MAX] {
+        assert_eq!(entry_of_page(page), Err(Refusal::Range), "page {page:#x}");
+    }
 }

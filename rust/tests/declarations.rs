@@ -60,11 +60,20 @@ fn rust_type(kind: &str) -> String {
 fn of_c(header: &str) -> Functions {
     let (shape, _) = between(header, "#define OALEDVA_SHAPE_ARGS ", "\n").unwrap();
     let mut functions = Functions::new();
-    for prototype in header.split(";\n").filter(|part| part.contains("OALEDVA_SHAPE_ARGS,\n")) {
-        let (head, parameters) = prototype.split_once("(\n    OALEDVA_SHAPE_ARGS,").unwrap();
-        let declared = head.lines().last().unwrap().strip_prefix("OALEDVA_MUST_USE ");
+    for part in header.split(";\n").filter(|part| part.ends_with(')')) {
+        // A prototype begins at its line's start; a statement doesn't, and the function that it stands in says `static`.
+        let lines: Vec<&str> = part.lines().collect();
+        let at_start = |line: &&str| line.starts_with(|c: char| c.is_alphabetic());
+        let Some(first) = lines.iter().rposition(at_start) else { continue };
+        let (head, parameters) = lines[first].split_once('(').unwrap();
+        if head.contains("static ") || head == "OALEDVA_ASSERT" {
+            continue;
+        }
+        let parameters = [&[parameters], &lines[first + 1..]].concat().join(" ");
+        let declared = head.strip_prefix("OALEDVA_MUST_USE ");
         let (result, name) = declared.unwrap_or_else(|| panic!("may be ignored: {head}")).split_once(' ').unwrap();
-        let common = list(&format!("{shape},{}", parameters.trim_end_matches(')'))).into_iter().map(|parameter| {
+        let parameters = parameters.trim_end_matches(')').replace("OALEDVA_SHAPE_ARGS", shape);
+        let common = list(&parameters).into_iter().map(|parameter| {
             let (kind, name) = parameter.rsplit_once(' ').unwrap();
             match (name.strip_prefix('*'), kind.strip_prefix("const ")) {
                 (Some(name), Some(element)) => format!("{name}: *const {}", rust_type(element)),
@@ -117,25 +126,27 @@ fn types_of_rust(declarations: &str) -> Types {
 
 /// By the macros' own text: what stands before each function's own parameters, and what `read` and `write` are.
 fn of_rust(declarations: &str) -> Functions {
-    assert!(declarations.contains("        extern \"C\" {\n"));
+    let blocks = declarations.matches("extern \"").count();
+    assert_eq!((blocks, declarations.matches("extern \"C\" {\n").count()), (2, 2), "of C, all of them");
     let (first, _) = between(declarations, "pub fn $name(", "$(, $argument").unwrap();
     let pointer = |way: &str| between(declarations, &format!("({way} $element:ty) => {{ "), " $element }").unwrap().0;
     let mut functions = Functions::new();
-    let mut rest = declarations.split_once("calls! {").unwrap().1;
-    while let Some((name, after)) = between(rest, "    fn ", "(") {
-        let (parameters, after) = after.split_once(") -> ").unwrap();
-        let (result, after) = after.split_once(';').unwrap();
-        let (own, buffers): (Vec<_>, Vec<_>) = list(parameters).into_iter().partition(|part| part.contains(": "));
-        let common = list(first).into_iter().map(|parameter| {
-            let Some((buffer, element)) = between(&parameter, "pointer!($", ")").and_then(|(of, _)| of.split_once(' '))
-            else {
-                return parameter;
-            };
-            let way = buffers.iter().find_map(|lent| lent.strip_suffix(&format!(" {buffer}"))).unwrap();
-            format!("{}: {} {element}", parameter.split_once(": ").unwrap().0, pointer(way))
-        });
-        functions.insert(name.into(), (common.chain(own).collect(), result.into()));
-        rest = after;
+    // Those of the macro, and those by themselves, which take no board.
+    for (begins, first) in [("    fn ", first), ("    pub fn ", "")] {
+        let mut rest = declarations.split_once("calls! {").unwrap().1;
+        while let Some((name, after)) = between(rest, begins, "(") {
+            let (parameters, after) = after.split_once(") -> ").unwrap();
+            let (result, after) = after.split_once(';').unwrap();
+            let (own, buffers): (Vec<_>, Vec<_>) = list(parameters).into_iter().partition(|part| part.contains(": "));
+            let common = list(first).into_iter().map(|parameter| {
+                let lent = between(&parameter, "pointer!($", ")").and_then(|(of, _)| of.split_once(' '));
+                let Some((buffer, element)) = lent else { return parameter };
+                let way = buffers.iter().find_map(|lent| lent.strip_suffix(&format!(" {buffer}"))).unwrap();
+                format!("{}: {} {element}", parameter.split_once(": ").unwrap().0, pointer(way))
+            });
+            functions.insert(name.into(), (common.chain(own).collect(), result.into()));
+            rest = after;
+        }
     }
     functions
 }
@@ -164,12 +175,15 @@ fn in_numbers(functions: Functions, types: &Types) -> Functions {
 fn the_source_the_header_and_the_crate_declare_the_same() {
     let mut source = of_rattle(&text("crates/oaledva/src/lib.rt"));
     source.extend(of_rattle(&text("crates/oaledva_user/src/lib.rt")));
-    assert_eq!(source.len(), 13);
+    assert_eq!(source.len(), 14);
     let (header, crates) = (text("include/oaledva.h"), text("rust/src/ffi.rs"));
     let types = types_of_c(&header);
-    assert_eq!(types.keys().collect::<Vec<_>>(), ["Answer", "Kind", "Looked", "Pending", "Permission", "Place"]);
+    assert_eq!(
+        types.keys().collect::<Vec<_>>(),
+        ["Answer", "Entry", "Kind", "Looked", "Pending", "Permission", "Place"]
+    );
     assert_eq!(types, types_of_rust(&crates));
-    for kind in ["Answer", "Looked", "Place"] {
+    for kind in ["Answer", "Entry", "Looked", "Place"] {
         assert!(
             crates.contains(&format!("#[must_use]\n#[repr(transparent)]\npub struct {kind} {{")),
             "may be ignored: {kind}"
@@ -203,6 +217,8 @@ fn a_changed_declaration_shows() {
     of_c_changed("uint64_t page", "uint32_t page");
     of_c_changed("oaledva_kind kind", "oaledva_permission kind");
     of_c_changed("oaledva_place oaledva_look(", "oaledva_answer oaledva_look(");
+    of_c_changed("entry_of_page(uint64_t page)", "entry_of_page(uint32_t page)");
+    of_c_changed("oaledva_entry oaledva_entry_of_page", "oaledva_place oaledva_entry_of_page");
     assert_ne!(types_of_c(&header), types_of_c(&changed(&header, "    uint32_t set;", "    uint64_t set;")));
     assert_ne!(types_of_rust(&crates), types_of_rust(&changed(&crates, "packed: u64", "packed: u32")));
     assert_ne!(types_of_rust(&crates), types_of_rust(&changed(&crates, "#[repr(transparent)]\npub", "pub")));
@@ -212,4 +228,6 @@ fn a_changed_declaration_shows() {
     assert_ne!(of_rust(&crates), of_rust(&changed(&crates, "{ *mut $element }", "{ *const $element }")));
     assert_ne!(of_rust(&crates), of_rust(&changed(&crates, "frames: usize", "uncached: usize")));
     assert_ne!(of_rust(&crates), of_rust(&changed(&crates, "-> Answer", "-> u64")));
+    assert_ne!(of_rust(&crates), of_rust(&changed(&crates, "entry_of_page(page: u64)", "entry_of_page(page: u32)")));
+    assert_ne!(of_rust(&crates), of_rust(&changed(&crates, "-> Entry", "-> Place")));
 }

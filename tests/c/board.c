@@ -1,5 +1,5 @@
 /* What the header adds to the library's functions, tried: boards in static buffers and in a block, limits, the calls on a
- * board, look's bytes. tests/c/run compiles this as C99, C11, C++11 and C++17 and runs each. */
+ * board, look's bytes, entries. tests/c/run compiles this as C99, C11, C++11 and C++17 and runs each. */
 #include <oaledva.h>
 #include <oaledva.h> /* twice is once */
 #include <stdio.h>
@@ -68,6 +68,23 @@ static void every_call(oaledva_board *b) {
     EXPECT(gives(oaledva_board_drop_tag(b), 0, 0, 0) && b->tag.set == 0 && b->tag.name == 0);
     EXPECT(gives(oaledva_board_detach(b, 1, 511), 0, 0, 0));
     EXPECT(gives(oaledva_board_load(b, 1, 1, 511u << 22), OALEDVA_SLOT_EMPTY, 0, 0));
+}
+
+/* The entry of a page, at the ends of what is refused, and three of 01's. */
+static void entries(void) {
+    static const struct {
+        uint64_t page, address;
+    } given[] = {{0x200000, 0xFFC00800000}, {0xFFFFFFFF, 0xFFFFFFFFFFC}, {0x048D1401, 0xFFC12345004},
+                 {0xFFC12345, 0xFFFFF048D14}};
+    static const uint64_t refused[] = {0, 1, 0x1FFFFF, (uint64_t)1 << 32, ((uint64_t)1 << 32) + 0x200000, UINT64_MAX};
+    for (size_t i = 0; i < OALEDVA_COUNT(given); i++) {
+        const oaledva_entry entry = oaledva_entry_of_page(given[i].page);
+        EXPECT(oaledva_entry_number(entry) == 0 && oaledva_entry_address(entry) == given[i].address);
+    }
+    for (size_t i = 0; i < OALEDVA_COUNT(refused); i++) {
+        const oaledva_entry entry = oaledva_entry_of_page(refused[i]);
+        EXPECT(oaledva_entry_number(entry) == OALEDVA_RANGE && oaledva_entry_address(entry) == 0);
+    }
 }
 
 /* The numbers and the lengths of a board, and no tag. */
@@ -178,5 +195,6 @@ int main(void) {
     in_static_buffers();
     in_a_block();
     limits();
+    entries();
     return 0;
 }

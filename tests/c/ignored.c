@@ -4,13 +4,15 @@
 
 OALEDVA_STATIC_BOARD(b, 4, 1, 2, 2);
 
-void ignore_all(void *block, oaledva_answer a, oaledva_place place);
-void ignore_all(void *block, oaledva_answer a, oaledva_place place) {
+void ignore_all(void *block, oaledva_answer a, oaledva_place place, oaledva_entry entry);
+void ignore_all(void *block, oaledva_answer a, oaledva_place place, oaledva_entry entry) {
     oaledva_number(a);
     oaledva_mark(a);
     oaledva_value(a);
     oaledva_done(a);
     oaledva_bytes_at(b.cache, b.memory, place);
+    oaledva_entry_number(entry);
+    oaledva_entry_address(entry);
     oaledva_board_bytes(4, 1, 2, 2);
     oaledva_user_access(OALEDVA_LEND(b), b.tag, 0, OALEDVA_LOAD, 4, 0, 0);
     oaledva_supervisor_access(OALEDVA_LEND(b), b.tag, OALEDVA_LOAD, 4, 0, 0);
@@ -25,6 +27,7 @@ void ignore_all(void *block, oaledva_answer a, oaledva_place place) {
     oaledva_drop_tag(OALEDVA_LEND(b), OALEDVA_TAG_OF(b));
     oaledva_look(OALEDVA_LEND(b), 256);
     oaledva_look_number(OALEDVA_LEND(b), 256);
+    oaledva_entry_of_page(0x200000);
     oaledva_board_over(&b, 4, 1, 2, 2, block, 0);
     oaledva_board_fresh(&b, 4, 1, 2, 2, block, 0);
     oaledva_board_load(&b, 0, 4, 0);

@@ -1,6 +1,7 @@
 //! What was reached: each refusal number of each call, each case, each route of each call; and what must be.
 
 use crate::cases::{Case, Reach, CASES};
+use crate::limits::ENTRY_PAGES;
 use crate::routes::{Route, ROUTES};
 use crate::trace::Deed;
 use model::Call;
@@ -9,8 +10,8 @@ use std::fmt::Write;
 /// The numbers end here.
 const NUMBERS: usize = 14;
 
-/// Each call with the numbers that 01 lets it give.
-pub const KINDS: [(&str, &[u32]); 13] = [
+/// Each call with the numbers that 01 lets it give, and CR 5 an entry.
+pub const KINDS: [(&str, &[u32]); 14] = [
     ("user access", &[0, 1, 2, 3, 4, 5, 6, 7, 8, 9]),
     ("supervisor access", &[0, 1, 2, 3, 4, 8, 10, 12]),
     ("attach", &[0, 1, 2]),
@@ -24,7 +25,12 @@ pub const KINDS: [(&str, &[u32]); 13] = [
     ("drop tag", &[0, 1, 3]),
     ("look", &[0, 1, 2]),
     ("look's number", &[0, 1, 2]),
+    ("entry of a page", &[0, 2]),
 ];
+
+/// Where the looks begin among them, and where the entries.
+const LOOKS: usize = 11;
+const ENTRIES: usize = 13;
 
 /// The row of a deed in `KINDS`; an audit is no call.
 fn row_of(deed: &Deed) -> Option<usize> {
@@ -40,13 +46,14 @@ fn row_of(deed: &Deed) -> Option<usize> {
         Deed::Call(Call::Tag { .. }) => 8,
         Deed::Call(Call::LoadAndMap { .. }) => 9,
         Deed::Call(Call::DropTag) => 10,
-        Deed::Look { .. } => 11,
-        Deed::LookNumber { .. } => 12,
+        Deed::Look { .. } => LOOKS,
+        Deed::LookNumber { .. } => LOOKS + 1,
+        Deed::Entry { .. } => ENTRIES,
         Deed::Audit => return None,
     })
 }
 
-/// Whether 01 lets this call give this number.
+/// Whether this call may give this number.
 pub fn in_table(deed: &Deed, number: u32) -> bool {
     row_of(deed).map_or(true, |row| KINDS[row].1.contains(&number))
 }
@@ -56,9 +63,15 @@ pub fn in_table(deed: &Deed, number: u32) -> bool {
 struct Counts {
     numbers: [[u64; NUMBERS]; KINDS.len()],
     cases: [u64; CASES.len()],
+    /// The pages of `ENTRY_PAGES` by each route.
+    entries: [[u64; ENTRY_PAGES.len()]; ROUTES.len()],
 }
 
-const NONE: Counts = Counts { numbers: [[0; NUMBERS]; KINDS.len()], cases: [0; CASES.len()] };
+const NONE: Counts = Counts {
+    numbers: [[0; NUMBERS]; KINDS.len()],
+    cases: [0; CASES.len()],
+    entries: [[0; ENTRY_PAGES.len()]; ROUTES.len()],
+};
 
 #[derive(Clone)]
 pub struct Coverage {
@@ -89,19 +102,28 @@ impl Coverage {
         for &case in cases {
             counts.cases[case as usize] += 1;
         }
+        if let Deed::Entry { page } = deed {
+            if let Some(end) = ENTRY_PAGES.iter().position(|end| end == page) {
+                counts.entries[route as usize][end] += 1;
+            }
+        }
     }
 
     fn count_of_rows(&self, rows: std::ops::Range<usize>) -> u64 {
         rows.map(|row| self.fresh.numbers[row].iter().chain(&self.wild.numbers[row]).sum::<u64>()).sum()
     }
 
-    /// The calls of 01, looks not among them.
+    /// The calls of 01, looks and entries not among them.
     pub fn calls(&self) -> u64 {
-        self.count_of_rows(0..11)
+        self.count_of_rows(0..LOOKS)
     }
 
     pub fn looks(&self) -> u64 {
-        self.count_of_rows(11..KINDS.len())
+        self.count_of_rows(LOOKS..ENTRIES)
+    }
+
+    pub fn entries(&self) -> u64 {
+        self.count_of_rows(ENTRIES..KINDS.len())
     }
 
     /// Everything that must be reached, in words, with its count. Number 1 cannot come on a fresh board: there numbers and
@@ -119,6 +141,12 @@ impl Coverage {
             for (count, (_, reach, words)) in counts.cases.iter_mut().zip(CASES) {
                 if (*reach == Reach::Fresh) == (board == "fresh") {
                     cells.push((format!("{words}, on a {board} board"), count));
+                }
+            }
+            for (counts, (_, route)) in counts.entries.iter_mut().zip(&ROUTES) {
+                for (count, page) in counts.iter_mut().zip(ENTRY_PAGES) {
+                    let words = format!("the entry of page {page:#x} by the {route} route, on a {board} board");
+                    cells.push((words, count));
                 }
             }
         }

@@ -257,11 +257,13 @@ fn resize<T: Clone + Default>(rng: &mut Rng, buffer: &mut Vec<T>) {
 // Steps
 // ---------------------------------------------------------------------------------------------
 
-/// Any step: mostly a call, sometimes a look. `early` is for the first steps of a fresh board, which should build something.
+/// Any step: mostly a call, sometimes a look or the entry of a page. `early` is for the first steps of a fresh board, which
+/// should build something.
 pub fn step(rng: &mut Rng, world: &World, board: &Board, early: bool) -> Step {
     let deed = match rng.below(100) {
         0..=7 => Deed::Look { line: physical_line(rng, world, board) },
         8..=11 => Deed::LookNumber { line: physical_line(rng, world, board) },
+        12..=15 => Deed::Entry { page: entry_page(rng, world) },
         _ => Deed::Call(call(rng, world, board, early)),
     };
     Step { deed, manner: manner(rng) }
@@ -474,6 +476,15 @@ fn physical_line(rng: &mut Rng, world: &World, board: &Board) -> u64 {
         2..=4 if board.fits() => board.record(rng.below(board.shape.lines)).line,
         5 => rng.below(LINES_PER_PAGE * frames),
         _ => rng.below(frames) * LINES_PER_PAGE + rng.pick(&world.lines),
+    }
+}
+
+/// A page whose entry is asked: at an end of what is refused, one of the world's, or one that is probably out of range.
+fn entry_page(rng: &mut Rng, world: &World) -> u64 {
+    match rng.below(8) {
+        0 => world.page(rng),
+        1 => bad_page(rng, world),
+        _ => rng.pick(&ENTRY_PAGES),
     }
 }
 

@@ -16,6 +16,10 @@ pub const SEGMENT_LAST: u64 = 4_190_207;
 pub const PAGE_FIRST: u64 = 0x20_0000;
 pub const PAGE_LAST: u64 = 0xFFBF_FFFF;
 
+/// The pages at the ends of what CR 5 refuses: the first and the last that have no entry, the first and the last that have one,
+/// the first number that is no page, and one that, cut to 32 bits, would be a page with an entry.
+pub const ENTRY_PAGES: [u64; 6] = [0, 0x1F_FFFF, 0x20_0000, 0xFFFF_FFFF, 0x1_0000_0000, 0x1_0020_0000];
+
 /// User addresses end here, global addresses and line names there.
 pub const USER_END: u32 = 0x8000_0000;
 pub const GLOBAL_END: u64 = 1 << 44;

@@ -176,6 +176,7 @@ fn search_and_report(options: &Options) -> Result<(), String> {
     }
     println!("{}", coverage.table());
     let Coverage { audits, audit_looks, pairs, pairs_apart, boards, .. } = coverage;
+    println!("{} entries of pages", coverage.entries());
     println!("{} looks by themselves; {audits} audits of a fresh board with {audit_looks} looks", coverage.looks());
     println!("{pairs} pairs of runs, equal for process 0; in {pairs_apart} of them a hit mark differs");
     let problems = coverage.problems();
@@ -225,6 +226,7 @@ fn given_text(given: &Given) -> String {
             format!("number {number}, value {value:#x}, mark {mark}: {event:?}")
         }
         Given::Look(number) => format!("number {number}"),
+        Given::Entry(number, value) => format!("number {number}, value {value:#x}"),
         Given::Audit => "as the plain machine's memory".into(),
     }
 }

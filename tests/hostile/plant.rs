@@ -24,6 +24,8 @@ pub enum Plant {
     LookPlace,
     LookNumber,
     LookWrites,
+    EntryNumber,
+    EntryValue,
     PlainNumber,
     PlainValue,
     PlainMemory,
@@ -33,7 +35,7 @@ pub enum Plant {
     Hang,
 }
 
-pub const PLANTS: [(Plant, &str); 23] = [
+pub const PLANTS: [(Plant, &str); 25] = [
     (Plant::Number, "number"),
     (Plant::Value, "value"),
     (Plant::Mark, "mark"),
@@ -50,6 +52,8 @@ pub const PLANTS: [(Plant, &str); 23] = [
     (Plant::LookPlace, "look-place"),
     (Plant::LookNumber, "look-number"),
     (Plant::LookWrites, "look-writes"),
+    (Plant::EntryNumber, "entry-number"),
+    (Plant::EntryValue, "entry-value"),
     (Plant::PlainNumber, "plain-number"),
     (Plant::PlainValue, "plain-value"),
     (Plant::PlainMemory, "plain-memory"),
@@ -80,6 +84,7 @@ impl Plant {
             Plant::Canary => Kind::Canary,
             Plant::LookPlace | Plant::LookNumber => Kind::Look,
             Plant::LookWrites => Kind::Buffer,
+            Plant::EntryNumber | Plant::EntryValue => Kind::Entry,
             Plant::PlainNumber | Plant::PlainValue | Plant::PlainMemory => Kind::Plain,
             Plant::TwoCopies => Kind::TwoCopies,
             Plant::Panic => Kind::Panic,
@@ -134,6 +139,14 @@ impl Plant {
     pub fn after_look_number(self, number: &mut u32) {
         if self == Plant::LookNumber && *number == 2 {
             *number = 1;
+        }
+    }
+
+    pub fn after_entry(self, number: &mut u32, value: &mut u64) {
+        match (self, *number) {
+            (Plant::EntryNumber, 2) => *number = 0,
+            (Plant::EntryValue, 0) => *value ^= 4,
+            _ => {}
         }
     }
 

@@ -1,6 +1,6 @@
 //! The four routes to the library: the raw declarations of the Rust crate; the C header's functions over each number and
 //! buffer, and those over a board (both by through.c); and the safe Rust crate. Each brings one call, or one look, to the
-//! board of `Real`.
+//! board of `Real`, or asks for the entry of a page, of no board.
 
 use crate::guarded::Real;
 use crate::limits::{FRAMES_MAX, LINES_MAX, LINE_BYTES, PROCESSES_MAX};
@@ -123,6 +123,12 @@ struct CAnswer {
     value: u32,
 }
 
+#[repr(C)]
+struct CEntry {
+    number: u32,
+    address: u64,
+}
+
 #[link(name = "through", kind = "static")]
 extern "C" {
     fn through_board_bytes() -> usize;
@@ -157,6 +163,7 @@ extern "C" {
     fn through_drop_tag(b: *mut CBoard, by_board: bool) -> CAnswer;
     fn through_look(b: *mut CBoard, by_board: bool, line: usize) -> *const u8;
     fn through_look_number(b: *mut CBoard, by_board: bool, line: usize) -> u32;
+    fn through_entry_of_page(page: u64) -> CEntry;
 }
 
 /// The refusal numbers by the names of the Rust crate, from 1 to 13, then the limits, by 01.
@@ -252,6 +259,24 @@ pub fn look_number(real: &mut Real, line: u64, manner: &Manner) -> Result<u32, S
             caged(real, manner, |board| unsafe { through_look_number(board, manner.by_board(), line) })
         }
         Route::Safe => Ok(lent(real).look_number(line)),
+    }
+}
+
+/// The entry of a page, as number and value. It asks no board, so the header's two routes are one.
+pub fn entry(page: u64, route: Route) -> (u32, u64) {
+    match route {
+        Route::Raw => {
+            let entry = unsafe { ffi::oaledva_entry_of_page(page) };
+            (entry.number(), entry.address())
+        }
+        Route::Header | Route::Board => {
+            let entry = unsafe { through_entry_of_page(page) };
+            (entry.number, entry.address)
+        }
+        Route::Safe => match oaledva::entry_of_page(page) {
+            Ok(address) => (0, address),
+            Err(refusal) => (refusal.number(), 0),
+        },
     }
 }
 

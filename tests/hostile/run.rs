@@ -23,6 +23,7 @@ pub enum Kind {
     Tag,
     Refused,
     Look,
+    Entry,
     Plain,
     TwoCopies,
     Panic,
@@ -63,6 +64,7 @@ fn same_buffer<T: Element>(kind: Kind, what: &str, library: &[T], expected: &[T]
 pub enum Given {
     Call(Answer, Event),
     Look(u32),
+    Entry(u32, u64),
     Audit,
 }
 
@@ -126,6 +128,7 @@ impl Run {
             Deed::Call(call) => self.call(&call, &manner, coverage),
             Deed::Look { line } => self.look(line, &manner, coverage),
             Deed::LookNumber { line } => self.look_number(line, &manner, coverage),
+            Deed::Entry { page } => self.entry(page, &manner, coverage),
             Deed::Audit => self.audit(&manner, coverage),
         }
     }
@@ -280,6 +283,20 @@ impl Run {
         self.same_buffers(true)?;
         coverage.count(self.fresh, &Deed::LookNumber { line }, manner.route, number, &[]);
         Ok(Given::Look(number))
+    }
+
+    /// The entry of a page: by the model, and nothing of the board may change.
+    fn entry(&mut self, page: u64, manner: &Manner, coverage: &mut Coverage) -> Result<Given, Difference> {
+        let (mut number, mut value) = routes::entry(page, manner.route);
+        if let Some(plant) = self.plant {
+            plant.after_entry(&mut number, &mut value);
+        }
+        let (expected, address) = model::entry_of(page);
+        same(Kind::Entry, "the entry's number", number, expected, "the model")?;
+        same(Kind::Entry, "the entry's value", value, address, "the model")?;
+        self.same_buffers(true)?;
+        coverage.count(self.fresh, &Deed::Entry { page }, manner.route, number, &[]);
+        Ok(Given::Entry(number, value))
     }
 
     /// Demand 2 at a moment: look shows the plain machine's memory at every physical line. Demand 3 at a moment: no two held

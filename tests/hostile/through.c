@@ -33,6 +33,18 @@ void through_constants(size_t constants[17]) {
     for (int i = 0; i < 17; i++) constants[i] = all[i];
 }
 
+/* The entry of a page asks no board, so there is one function for both routes. */
+typedef struct through_entry {
+    uint32_t number;
+    uint64_t address;
+} through_entry;
+
+through_entry through_entry_of_page(uint64_t page) {
+    const oaledva_entry entry = oaledva_entry_of_page(page);
+    through_entry parts = {oaledva_entry_number(entry), oaledva_entry_address(entry)};
+    return parts;
+}
+
 /* Each call by either kind of the header's functions: those over a board, or those over each number and buffer. Of the
  * former a load and a store are two. */
 through_answer through_user_access(oaledva_board *b, bool by_board, size_t process, uint32_t store, uint32_t width,

@@ -23,6 +23,10 @@ pub enum Deed {
     LookNumber {
         line: u64,
     },
+    /// Asks for the entry of a page: of no board.
+    Entry {
+        page: u64,
+    },
     /// Looks at every physical line and compares with the plain machine's memory; asks for two copies of a line.
     Audit,
 }
@@ -74,6 +78,7 @@ fn parts(deed: &Deed) -> (&'static str, Vec<(&'static str, u64)>) {
         Deed::Call(Call::DropTag) => ("drop-tag", vec![]),
         Deed::Look { line } => ("look", vec![("line", line)]),
         Deed::LookNumber { line } => ("look-number", vec![("line", line)]),
+        Deed::Entry { page } => ("entry", vec![("page", page)]),
         Deed::Audit => ("audit", vec![]),
     }
 }
@@ -112,6 +117,7 @@ fn deed_of(name: &str, arguments: &Arguments) -> Result<Deed, String> {
         "drop-tag" => Deed::Call(Call::DropTag),
         "look" => Deed::Look { line: get("line")? },
         "look-number" => Deed::LookNumber { line: get("line")? },
+        "entry" => Deed::Entry { page: get("page")? },
         "audit" => Deed::Audit,
         other => return Err(format!("no call is named '{other}'")),
     })

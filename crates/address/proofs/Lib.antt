@@ -1,2 +1,3 @@
 pub mod Regions
 pub mod Tests
+pub mod Entries

@@ -63,7 +63,7 @@ physicalOf g = physical (g .0 % prefixBytes)
 abbrev pub inFrame : ℕ → Global → Physical
 inFrame frame g = physical (frame * pageBytes + g .0 % pageBytes)
 
--- the entry for a page stands at 1023 × 2^34 + 4 × page
+-- the entry for a page stands at 1023 × 2^34 + 4 × page; who asks for it may be refused (Entries.antt)
 abbrev pub entryOf : ℕ → Global
 entryOf page = global (tableIndex * tableBytes + 4 * page)
 

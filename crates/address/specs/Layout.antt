@@ -48,6 +48,10 @@ firstSegment = 2048
 abbrev pub lastSegment : ℕ
 lastSegment = 4190207
 
+-- a page is below this: it has 32 bits
+abbrev pub pageEnd : ℕ
+pageEnd = 2 ^ 32
+
 -- the ordinary pages
 abbrev pub firstPage : ℕ
 firstPage = 0x200000

@@ -1,8 +1,9 @@
 // 01, "Addresses": effective, global and physical addresses, what they reach, and page table entries.
 ghost use mathlib.Core.Path.{_≡_};
 ghost use Prim.Native.Nat.{_/_, _<_, _^_};
-ghost use Rattle.address.specs.Layout.{pageBytes, prefixBytes};
+ghost use Rattle.address.specs.Layout.{pageBytes, prefixBytes, pageEnd};
 ghost use Rattle.address.specs.Addresses.{slotOf, globalOf, pageOf, nameOf, physicalLineOf, frameOfPhysical, prefixOf, regionOf, physicalOf, inFrame, entryOf, isKernels, attachable, ordinaryPage};
+ghost use Rattle.address.specs.Entries.{AskedEntry};
 
 // An address as a process brings it: 32 bits.
 pub struct Effective(pub u32);
@@ -19,6 +20,12 @@ pub enum Region {
     Cached,
     PageTable,
     Ordinary,
+}
+
+// What asking for the page table entry of a page gives: where it stands, or a refusal.
+pub enum Entry {
+    At(Global),
+    Refused,
 }
 
 // The sizes of 01's address layout.
@@ -39,6 +46,9 @@ const TABLE_INDEX: u64 = 1023;
 const FIRST_SEGMENT: u64 = 2048;
 
 const LAST_SEGMENT: u64 = 4190207;
+
+// A page is below this.
+const PAGE_END: u64 = 4294967296;
 
 const FIRST_PAGE: u64 = 2097152;
 
@@ -141,11 +151,25 @@ impl Physical {
     }
 }
 
-// Where the page table entry of a page stands.
-pub fn entry_of(page: u32) -> Global
+// Where the page table entry of a page stands, whether the page has one or not.
+fn entry_of(page: u64) -> Global
+    requires { ⌜ page < pageEnd ⌝ }
     ensures { λ r. ⌜ r ≡ entryOf page ⌝ }
 {
-    Global(TABLE_INDEX * TABLE_BYTES + 4 * page as u64)
+    Global(TABLE_INDEX * TABLE_BYTES + 4 * page)
+}
+
+// The page table entry of a page, for whoever asks: any number may be brought.
+pub fn asked_entry(page: u64) -> Entry
+    ensures { λ r. ⌜ AskedEntry page r ⌝ }
+{
+    if page < FIRST_PAGE {
+        return Entry::Refused;
+    }
+    if PAGE_END <= page {
+        return Entry::Refused;
+    }
+    Entry::At(entry_of(page))
 }
 
 // A segment that may be attached.

@@ -2,3 +2,4 @@
 pub mod Packs
 pub mod Fitting
 pub mod Returns
+pub mod Entries

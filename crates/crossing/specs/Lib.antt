@@ -1,3 +1,4 @@
 pub mod Packing
 pub mod Answers
 pub mod Returns
+pub mod Entries

@@ -1,6 +1,7 @@
--- P1 to P12 of 01 hold of the definitions.
+-- P1 to P12 of 01, and CR 5's two pages, hold of the definitions.
 use mathlib.Core.Path.{refl}
 use Rattle.address.specs.Addresses.{regionOf}
+use Rattle.address.specs.Entries.{askedEntry, entryNumber, entryValue}
 use Rattle.board.specs.Lists.{part, splice}
 use Rattle.board.specs.Shapes.{fitsShape}
 use Rattle.pages.specs.Pages.{lowestFrom, lowestFrame, mappedTo, freeFrame, directHome, homeBy, homeOf}
@@ -16,5 +17,5 @@ use Rattle.machine.specs.Calls.{attach}
 use Rattle.machine.specs.Numbers.{numbersToCheck, all, NumbersHold}
 
 pub numbers-hold : NumbersHold
-unfolding regionOf part splice fitsShape lowestFrom lowestFrame mappedTo freeFrame directHome homeBy homeOf number digits stored lineOf withLine lineAt putLine holdsLine holdsAt holderFrom holderOf writtenBack filled noted inserted performedAt wayByHome wayBy wayOf unreached mayWrite ones onesIn byTable alignedTo performedOn accessedBy accessed userTable userAccess attach numbersToCheck all
+unfolding regionOf askedEntry entryNumber entryValue part splice fitsShape lowestFrom lowestFrame mappedTo freeFrame directHome homeBy homeOf number digits stored lineOf withLine lineAt putLine holdsLine holdsAt holderFrom holderOf writtenBack filled noted inserted performedAt wayByHome wayBy wayOf unreached mayWrite ones onesIn byTable alignedTo performedOn accessedBy accessed userTable userAccess attach numbersToCheck all
 numbers-hold = refl

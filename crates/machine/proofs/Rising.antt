@@ -17,4 +17,5 @@ tables-rise = record {
   load-and-map = λ s b line. refl;
   drop-tag = λ s b. refl;
   look = λ s b line. refl;
+  entry = λ page. refl;
 }

@@ -1,11 +1,12 @@
--- 01, "Numbers to check": P1 to P12 as one list, each asked of the definitions.
+-- 01, "Numbers to check": P1 to P12 as one list, each asked of the definitions, and CR 5's two pages among them.
 use Prim.Native.Nat.{ℕ}
 use mathlib.Core.Bool.{Bool, true, false, _&&_}
 use mathlib.Core.Path.{_≡_}
 use mathlib.Core.List.{List, [], _∷_, _++_}
 use lib.ListN.{replicate}
 use lib.Dec.{eqb}
-use Rattle.address.specs.Addresses.{effective, global, slotOf, pageOf, regionOf, entryOf}
+use Rattle.address.specs.Addresses.{effective, global, slotOf, pageOf, regionOf}
+use Rattle.address.specs.Entries.{askedEntry, entryNumber, entryValue}
 use Rattle.address.specs.declared.Global.{Global}
 use Rattle.address.specs.declared.Region.{Region}
 use Rattle.address.specs.declared.Region.the-variants.{Uncached, Cached, PageTable, Ordinary}
@@ -54,14 +55,21 @@ regionNumber Ordinary = 3
 abbrev reaching : ℕ → ℕ
 reaching g = regionNumber (regionOf (global g))
 
+-- asking for the entry of a page gives this number and this value
+abbrev entryGives : ℕ → ℕ → ℕ → Bool
+entryGives page number value = eqb (entryNumber (askedEntry page)) number && eqb (entryValue (askedEntry page)) value
+
 unfoldable pub numbersToCheck : List Bool
 numbersToCheck =
     -- P1 slot 1 holds 0x12345; effective 0x00401234 gives global 0x048D1401234, page 0x048D1401
     (eqb (slotOf (effective 0x00401234)) 1 && (eqb (p1 .0) 0x048D1401234 && eqb (pageOf p1) 0x048D1401))
     -- P2 that page's entry, P3 the entry of that entry's page, P4 the last page's entry
-    ∷ eqb (entryOf 0x048D1401 .0) 0xFFC12345004
-    ∷ eqb (entryOf (pageOf (entryOf 0x048D1401)) .0) 0xFFFFF048D14
-    ∷ eqb (entryOf 0xFFFFFFFF .0) 0xFFFFFFFFFFC
+    ∷ entryGives 0x048D1401 0 0xFFC12345004
+    ∷ entryGives (pageOf (global (entryValue (askedEntry 0x048D1401)))) 0 0xFFFFF048D14
+    ∷ entryGives 0xFFFFFFFF 0 0xFFFFFFFFFFC
+    -- CR 5: the last page below 0x200000 is refused by 2, and 0x200000 has an entry
+    ∷ entryGives 0x1FFFFF 2 0
+    ∷ entryGives 0x200000 0 0xFFC00800000
     -- P5 uncached, P6 cached, P7 and P8 ordinary, P9 page table
     ∷ eqb (reaching 0x000FFFFFFFF) (regionNumber Uncached)
     ∷ eqb (reaching 0x00100000000) (regionNumber Cached)

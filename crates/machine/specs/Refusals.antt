@@ -6,6 +6,7 @@ use lib.ListN.{getD}
 use lib.Dec.{eqb, leb, ltb}
 use Rattle.address.specs.Layout.{pageLines, processSlots, globalEnd}
 use Rattle.address.specs.Addresses.{ordinaryPage, pageOfName}
+use Rattle.address.specs.Entries.{hasEntry}
 use Rattle.address.specs.declared.Global.{Global}
 use Rattle.address.specs.declared.Region.{Region}
 use Rattle.address.specs.declared.Region.the-variants.{Uncached, Cached, PageTable, Ordinary}
@@ -40,7 +41,7 @@ abbrev pub row1 : Shape → Board → Row
 row1 s b = row 1 (not (fitsBoard s b))
 
 -- 2: process, slot, segment, frame (below U or from F up), physical line, line name or page outside its range; global address from 2^44 up.
--- These are the ranges; `attachable` and `ordinaryPage` are those of segments and pages.
+-- These are the ranges; `attachable` and `ordinaryPage` are those of segments and pages, `hasEntry` that of pages whose entry is asked.
 abbrev pub isProcess : Shape → ℕ → Bool
 isProcess s process = ltb process (s .processes)
 
@@ -105,3 +106,7 @@ outside s frame PageTable = true
 outside s frame Ordinary = false
 
 -- 13: load-and-map: not the physical line to which the tag is mapped: with that call
+
+-- Asking for the entry of a page asks no board, so never 1: its whole table (`askedEntry` says what is given)
+abbrev pub entryTable : ℕ → List Row
+entryTable page = row 2 (not (hasEntry page)) ∷ []

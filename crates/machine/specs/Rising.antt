@@ -10,7 +10,7 @@ use Rattle.address.specs.declared.Global.{Global}
 use Rattle.board.specs.declared.Shape.{Shape}
 use Rattle.stores.specs.declared.Access.{Access}
 use Rattle.machine.specs.Boards.{Board}
-use Rattle.machine.specs.Refusals.{Row}
+use Rattle.machine.specs.Refusals.{Row, entryTable}
 use Rattle.machine.specs.Accesses.{userTable, supervisorTable}
 use Rattle.machine.specs.Calls.{attachTable, detachTable, mapTable, pageTable, flushTable, tagTable, loadAndMapTable, dropTagTable}
 use Rattle.machine.specs.Looks.{lookTable}
@@ -37,3 +37,4 @@ pub record TablesRise : Type 0 where
   pub load-and-map : (s : Shape) (b : Board) (line : ℕ) → Rises (loadAndMapTable s b line)
   pub drop-tag : (s : Shape) (b : Board) → Rises (dropTagTable s b)
   pub look : (s : Shape) (b : Board) (line : ℕ) → Rises (lookTable s b line)
+  pub entry : (page : ℕ) → Rises (entryTable page)

@@ -5,6 +5,7 @@ ghost use Rattle.board.specs.declared.Pending.{Pending};
 ghost use Rattle.machine.specs.Contracts.{before, after, SupervisorAccess, Attach, Detach, Map, Unmap, Protect, FlushAll, Tag, LoadAndMap, DropTag, LookNumber};
 ghost use Rattle.crossing.specs.Packing.{unpacked, isYes, tagOf, shape, access};
 ghost use Rattle.crossing.specs.Returns.{tagBefore, returned, Meets};
+ghost use Rattle.crossing.specs.Entries.{EntryReturned};
 ghost use Rattle.look_place.specs.Lends.{LookPlace};
 use address::Global;
 use board::Pending;
@@ -393,4 +394,12 @@ pub extern "C" fn oaledva_look(
         lines: lines,
     };
     look_place::place(s, slots, words, records, cache, memory, line)
+}
+
+// Where the page table entry of a page stands. It asks no board.
+#[no_mangle]
+pub extern "C" fn oaledva_entry_of_page(page: u64) -> u64
+    ensures { λ r. ⌜ EntryReturned page r ⌝ }
+{
+    crossing::returned_entry(page)
 }

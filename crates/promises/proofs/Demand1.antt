@@ -1,19 +1,21 @@
 -- Demand 1, from one law of rising tables: the first row that applies is the lowest, and what a table gives is
 -- either the refusal of that row or, where no row applies, what is done. Stands on the laws of `machine` only.
 use Prim.Native.Nat.{ℕ, zero, suc, _%_, _≤_}
-use mathlib.Core.Path.{_≡_, refl}
-use mathlib.Core.Bool.{Bool, true, false, _&&_, _||_, cond}
+use mathlib.Core.Path.{_≡_, refl, subst}
+use mathlib.Core.Bool.{Bool, true, false, not, _&&_, _||_, cond}
 use mathlib.Core.List.{List, [], _∷_}
 use native.Mathlib.Omega.{arith}
 use lib.Dec.{eqb, leb}
 use borrow.Author.Tests.{eqb-true, eq-eqb, leb-true}
 use Rattle.machine.specs.Looks.{lookTable, lookNumber, look}
-use Rattle.address.specs.Addresses.{nameOf, regionOf, physicalOf}
+use Rattle.address.specs.Addresses.{nameOf, regionOf, physicalOf, entryOf}
+use Rattle.address.specs.Entries.{hasEntry, askedEntry, entryNumber, entryValue}
 use Rattle.address.specs.declared.Effective.{Effective}
 use Rattle.address.specs.declared.Global.{Global}
 use Rattle.address.specs.declared.Physical.{Physical}
 use Rattle.address.specs.declared.Region.{Region}
 use Rattle.address.specs.declared.Region.the-variants.{Uncached, Cached, PageTable, Ordinary}
+use Rattle.address.specs.declared.Entry.the-variants.{At, Refused}
 use Rattle.board.specs.declared.Shape.{Shape}
 use Rattle.board.proofs.Bools.{clash, and-left, and-right, cond-both}
 use Rattle.stores.specs.Stores.{Store}
@@ -22,7 +24,7 @@ use Rattle.stores.specs.declared.Access.{Access}
 use Rattle.reach.specs.declared.Way.{Way}
 use Rattle.reach.specs.declared.Way.the-variants.{Held, InMemory, Missing}
 use Rattle.machine.specs.Boards.{Board, Outcome, refused}
-use Rattle.machine.specs.Refusals.{Row, byTable, outside, wordInUse, isOrdinary, isCached}
+use Rattle.machine.specs.Refusals.{Row, byTable, entryTable, outside, wordInUse, isOrdinary, isCached}
 use Rattle.machine.specs.Accesses.{Reached, accessedBy, accessed, performedOn, wayTo, userGlobal, userTable, userAccess, frameUnder, supervisorTable, memoryAccess, supervisorDone, supervisorAccess}
 use Rattle.machine.specs.Calls as board
 use Rattle.machine.specs.Rising.{rising, Rises}
@@ -30,7 +32,7 @@ use Rattle.machine.proofs.Tables.{Passed, passed-more, table-both}
 use Rattle.machine.proofs.Rising.{tables-rise}
 use Rattle.machine.proofs.Prefixes.{region-cached, prefix-reached}
 use Rattle.promises.specs.Runs.{Supervisor, access, attach, detach, map, unmap, protect, flushAll, tag, loadAndMap, dropTag, Call, user, supervisor, supervise, step}
-use Rattle.promises.specs.Demand1.{supervisorRows, rowsOf, appliesIn, Lowest, Demand1, LookRefusals}
+use Rattle.promises.specs.Demand1.{supervisorRows, rowsOf, appliesIn, Lowest, Demand1, LookRefusals, EntryRefusals}
 
 -- ---- rising tables
 
@@ -197,8 +199,30 @@ module _ (s : Shape) (b : Board) where
         nothing-given = table-both (λ n l. (n ≡ 0 → ⊥) → l ≡ []) (λ n. n) (λ n. []) (λ n h. refl) (lookTable s b line) 0 _ (λ p h. absurd (h refl));
       }
 
+-- the number of an entry is its table's, and a refused one has value 0
+entry-by : (t : Bool) (g : Global) → cond (not t) 2 0 ≡ entryNumber (cond t (At g) Refused)
+unfolding entryNumber
+entry-by true g = refl
+entry-by false g = refl
+
+entry-nothing : (t : Bool) (g : Global) → (entryNumber (cond t (At g) Refused) ≡ 0 → ⊥) → entryValue (cond t (At g) Refused) ≡ 0
+unfolding entryNumber entryValue
+entry-nothing true g h = absurd (h refl)
+entry-nothing false g h = refl
+
+told-entry : (page : ℕ) → EntryRefusals page
+unfolding askedEntry byTable
+told-entry page =
+    record {
+      number-is-lowest =
+          subst (Lowest (entryTable page)) (entry-by (hasEntry page) (entryOf page))
+          (number-lowest (entryTable page) _ (tabled (λ n. n) 0 1 (entryTable page) (tables-rise .entry page)));
+      nothing-given = entry-nothing (hasEntry page) (entryOf page);
+    }
+
 pub demand1 : Demand1
 demand1 = record {
   calls = λ s b k. let t = told-call s b k in record { number-is-lowest = t .number-is-lowest; nothing-changed = t .nothing-changed };
   looks = told-look;
+  entries = told-entry;
 }

@@ -19,3 +19,5 @@ pub mod Demand1
 pub mod Demand2
 pub mod Demand3
 pub mod Brought
+-- what a change request promises beside them
+pub mod Entries

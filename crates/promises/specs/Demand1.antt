@@ -6,9 +6,10 @@ use mathlib.Core.Path.{_≡_}
 use mathlib.Core.Bool.{Bool, true, false, _&&_, _||_}
 use mathlib.Core.List.{List, [], _∷_}
 use lib.Dec.{eqb}
+use Rattle.address.specs.Entries.{askedEntry, entryNumber, entryValue}
 use Rattle.board.specs.declared.Shape.{Shape}
 use Rattle.machine.specs.Boards.{Board, refused}
-use Rattle.machine.specs.Refusals.{Row}
+use Rattle.machine.specs.Refusals.{Row, entryTable}
 use Rattle.machine.specs.Accesses.{userTable, supervisorTable}
 use Rattle.machine.specs.Calls.{attachTable, detachTable, mapTable, pageTable, flushTable, tagTable, loadAndMapTable, dropTagTable}
 use Rattle.machine.specs.Looks.{lookTable, lookNumber, look}
@@ -53,6 +54,12 @@ pub record LookRefusals (s : Shape) (b : Board) (line : ℕ) : Type 0 where
   pub number-is-lowest : Lowest (lookTable s b line) (lookNumber s b line)
   pub nothing-given : (lookNumber s b line ≡ 0 → ⊥) → look s b line ≡ []
 
+-- the same of asking for the entry of a page, which asks no board: refused it gives value 0
+pub record EntryRefusals (page : ℕ) : Type 0 where
+  pub number-is-lowest : Lowest (entryTable page) (entryNumber (askedEntry page))
+  pub nothing-given : (entryNumber (askedEntry page) ≡ 0 → ⊥) → entryValue (askedEntry page) ≡ 0
+
 pub record Demand1 : Type 0 where
   pub calls : (s : Shape) (b : Board) (k : Call) → Refusals s b k
   pub looks : (s : Shape) (b : Board) (line : ℕ) → LookRefusals s b line
+  pub entries : (page : ℕ) → EntryRefusals page

@@ -74,9 +74,14 @@ pub fn frame_of(physical: u64) -> u64 {
     physical / PAGE_BYTES
 }
 
-/// "The entry for a page stands at 1023 × 2^34 + 4 × page; this is defined for every page."
-pub fn entry_of(page: u32) -> u64 {
-    1023 * (1 << 34) + 4 * u64::from(page)
+/// "The entry for a page stands at 1023 × 2^34 + 4 × page." By CR 5, "pages below 0x200000 lie under prefixes 0 and 1 and are
+/// never translated. Asking for their entry is now refused with 2." So is asking for that of a page from 2^32 up: a page has 32
+/// bits. It asks no board. Gives the number and the value, 0 where it is refused.
+pub fn entry_of(page: u64) -> (u32, u64) {
+    if page < 0x20_0000 || page >= 1 << 32 {
+        return (2, 0);
+    }
+    (0, 1023 * (1 << 34) + 4 * page)
 }
 
 #[derive(Clone, Copy, Debug, PartialEq, Eq)]

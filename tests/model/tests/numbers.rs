@@ -21,10 +21,24 @@ fn p1_translation() {
 
 #[test]
 fn p2_p3_p4_entries() {
-    assert_eq!(entry_of(0x048D_1401), 0xFFC_1234_5004);
-    let page = page_of(0xFFC_1234_5004) as u32;
-    assert_eq!(entry_of(page), 0xFFF_FF04_8D14);
-    assert_eq!(entry_of(0xFFFF_FFFF), 0xFFF_FFFF_FFFC);
+    assert_eq!(entry_of(0x048D_1401), (0, 0xFFC_1234_5004));
+    assert_eq!(entry_of(page_of(0xFFC_1234_5004)), (0, 0xFFF_FF04_8D14));
+    assert_eq!(entry_of(0xFFFF_FFFF), (0, 0xFFF_FFFF_FFFC));
+}
+
+/// CR 5's two pages, and the other ends.
+#[test]
+fn entries_that_cannot_exist() {
+    assert_eq!(entry_of(0x1F_FFFF), (2, 0));
+    assert_eq!(entry_of(0x20_0000), (0, 0xFFC_0080_0000));
+    for page in [0, 1, 0xF_FFFF, 0x10_0000, 1 << 32, (1 << 32) + 0x20_0000, 1 << 62, u64::MAX] {
+        assert_eq!(entry_of(page), (2, 0), "page {page:#x}");
+    }
+    // The pages that are refused are those under prefixes 0 and 1, at both ends of each.
+    for page in [0, 0xF_FFFF, 0x10_0000, 0x1F_FFFF, 0x20_0000, PAGE_LAST, PAGE_LAST + 1, 0xFFFF_FFFF] {
+        let by_prefix = matches!(kind_of(page * PAGE_BYTES), Kind::Uncached(_) | Kind::Cached(_));
+        assert_eq!(entry_of(page).0 == 2, by_prefix, "page {page:#x}");
+    }
 }
 
 #[test]
