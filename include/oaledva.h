@@ -4,7 +4,7 @@
  *
  * Most programs keep their board in an oaledva_board and use the functions oaledva_board_... at the end of this file. The
  * functions before those take each number and each buffer by itself, for programs that hold the buffers elsewhere; what a
- * call does, and by which numbers it is refused, is said there. One function takes no board: oaledva_entry_of_page.
+ * call does, and by which numbers it is refused, is said there. One call takes no board: oaledva_entry_of_page.
  *
  * What is proved of each call, for whatever numbers and buffer lengths the caller brings: on the language's own machine it
  * ends, it takes no step outside the buffers that it is lent, and the answer, the buffers and the tag after it are those that
@@ -357,8 +357,8 @@ OALEDVA_MUST_USE oaledva_looked oaledva_look_number(
 /* ==== no board at all
  * The page table entry of a page (global address / 4096): the global address at which it stands, 1023 * 2^34 + 4 * page. It
  * asks no board, so it is never refused by 1. Refused by 2: a page below 0x200000, which lies under prefix 0 or 1 and is never
- * translated, so that it has no entry; and a number from 2^32 up, which is no page. No table is kept there: a supervisor's access
- * to an entry is refused by 12. */
+ * translated, so that it has no entry; and a number from 2^32 up, which is no page. Nothing stands at an entry's address: no
+ * tables are kept, and a supervisor's access to it is refused, by 12 if no lower number applies. */
 OALEDVA_MUST_USE oaledva_entry oaledva_entry_of_page(uint64_t page);
 
 /* ==== a board in one place: the shape, the buffers with their lengths, and the tag. A copy of it shares the buffers but has a

@@ -1,8 +1,9 @@
-//! The functions of `liboaledva.a` as they are, by the prototypes of `include/oaledva.h`. Every call takes the shape (four
-//! numbers) and the five buffers first, each as a pointer and its length in elements; a call says of each buffer whether it
-//! only reads it or may write it. Only [`oaledva_entry_of_page`] takes no board. Answers, places, entries, flags and the tag
-//! are numbers in types of their own, as in the header: a type of one number is passed as that number, and [`Pending`] as its
-//! two, one after the other, because the six arguments that go in registers come before it (x86-64 System V).
+//! The functions of `liboaledva.a` as they are, by the prototypes of `include/oaledva.h`. Every call but
+//! [`oaledva_entry_of_page`] takes a board: the shape (four numbers) and the five buffers first, each as a pointer and its
+//! length in elements; a call says of each buffer whether it only reads it or may write it. Answers, places, entries, flags
+//! and the tag are numbers in types of their own, as in the header: a type of one number is passed as that number, and
+//! [`Pending`] as its two, one after the other, because the six arguments that go in registers come before it (x86-64 System
+//! V).
 //!
 //! # Safety
 //! What the proof assumes of the caller: each pointer points to as many elements as its length says (where the length is 0 it

@@ -353,8 +353,8 @@ where
 /// The global address at which the page table entry of a page stands: 1023 × 2^34 + 4 × page. It asks no board.
 ///
 /// Refused by [`Refusal::Range`]: a page below 0x200000, which lies under prefix 0 or 1 and is never translated, so that it has
-/// no entry; and a number from 2^32 up, which is no page. No table is kept there: a supervisor's access to an entry is refused
-/// by [`Refusal::Outside`].
+/// no entry; and a number from 2^32 up, which is no page. Nothing stands at an entry's address: no tables are kept, and a
+/// supervisor's access to it is refused, by [`Refusal::Outside`] if no lower number applies.
 pub fn entry_of_page(page: u64) -> Result<u64, Refusal> {
     // Safety: the function takes a number, and nothing is asked of it.
     let entry = unsafe { ffi::oaledva_entry_of_page(page) };

@@ -10,7 +10,7 @@ use std::fmt::Write;
 /// The numbers end here.
 const NUMBERS: usize = 14;
 
-/// Each call with the numbers that 01 lets it give, and CR 5 an entry.
+/// Each call with the numbers that it may give: by 01, and an entry by CR 5.
 pub const KINDS: [(&str, &[u32]); 14] = [
     ("user access", &[0, 1, 2, 3, 4, 5, 6, 7, 8, 9]),
     ("supervisor access", &[0, 1, 2, 3, 4, 8, 10, 12]),

@@ -1,6 +1,6 @@
 -- 01, "Addresses": a definition for each sentence, in its order.
 -- The three kinds of address are three types, in the code and here.
-use Prim.Native.Nat.{ℕ, _+_, _*_, _/_, _%_, _^_}
+use Prim.Native.Nat.{ℕ, _+_, _*_, _/_, _%_}
 use mathlib.Core.Bool.{Bool, _&&_, cond}
 use lib.Dec.{eqb, leb}
 use Rattle.address.specs.Layout.{segmentBytes, pageBytes, lineBytes, pageLines, prefixBytes, kernelStart, tableBytes, tableIndex, firstSegment, lastSegment, firstPage, lastPage}

@@ -12,7 +12,7 @@ use Rattle.address.specs.declared.Entry.the-variants.{At, Refused}
 abbrev pub hasEntry : ℕ → Bool
 hasEntry page = leb firstPage page && ltb page pageEnd
 
--- what is asked
+-- what asking gives: the entry of a page that has one, else a refusal
 unfoldable pub askedEntry : ℕ → Entry
 askedEntry page = cond (hasEntry page) (At (entryOf page)) Refused
 
@@ -25,7 +25,7 @@ unfoldable pub entryValue : Entry → ℕ
 entryValue (At g) = g .0
 entryValue Refused = 0
 
--- the contract: what asking for the entry of a page gives
+-- the contract
 abbrev pub AskedEntry : ℕ → Entry → Type 0
 AskedEntry page r = r ≡ askedEntry page
 

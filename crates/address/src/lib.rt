@@ -151,7 +151,7 @@ impl Physical {
     }
 }
 
-// Where the page table entry of a page stands, whether the page has one or not.
+// Where the page table entry of a page would stand, for any page.
 fn entry_of(page: u64) -> Global
     requires { ⌜ page < pageEnd ⌝ }
     ensures { λ r. ⌜ r ≡ entryOf page ⌝ }

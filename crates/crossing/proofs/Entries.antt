@@ -1,6 +1,6 @@
 -- The entry of a page as one number: the returns, and no second one.
-use Prim.Native.Nat.{ℕ, _+_, _*_, _/_, _%_, _<_}
-use mathlib.Core.Path.{_≡_, refl, _∙_, sym, ap}
+use Prim.Native.Nat.{ℕ, _/_, _%_, _<_}
+use mathlib.Core.Path.{_≡_, _∙_, sym, ap}
 use native.Mathlib.Omega.{arith}
 use Rattle.address.specs.Layout.{globalEnd}
 use Rattle.address.specs.Entries.{askedEntry, entryNumber, entryValue}

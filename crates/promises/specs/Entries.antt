@@ -26,5 +26,5 @@ pub record NeverTranslated : Type 0 where
 pub record EntriesStand : Type 0 where
   -- an entry that is given stands in the page table region
   pub in-table-region : (page : ℕ) (g : Global) → askedEntry page ≡ At g → regionOf g ≡ PageTable
-  -- no two pages are given one entry
+  -- no two pages share an entry
   pub apart : (p q : ℕ) (g : Global) → askedEntry p ≡ At g → askedEntry q ≡ At g → p ≡ q

@@ -1,7 +1,6 @@
 -- `asked_entry` refuses by the page: one law a return.
 use native.Mathlib.Omega.{arith}
 use Rattle.address.proofs.Entries.{asked-below, asked-beyond, asked-given}
-use borrow.Author.Needs.{needs}
 use Rattle.address.proofs.asked_entry.Statement.{statement}
 use Rattle.address.proofs.asked_entry.Tie as tie
 
