@@ -338,10 +338,7 @@ where
     /// Keeps an answer's mark, and gives its value or its refusal.
     fn answer(&mut self, answer: Answer) -> Result<u32, Refusal> {
         self.hit = answer.mark();
-        match Refusal::of(answer.number()) {
-            None => Ok(answer.value()),
-            Some(refusal) => Err(refusal),
-        }
+        Refusal::of(answer.number()).map_or(Ok(answer.value()), Err)
     }
 
     fn tagged_answer(&mut self, answer: Answer, tag: Pending) -> Result<(), Refusal> {
@@ -358,10 +355,7 @@ where
 pub fn entry_of_page(page: u64) -> Result<u64, Refusal> {
     // Safety: the function takes a number, and nothing is asked of it.
     let entry = unsafe { ffi::oaledva_entry_of_page(page) };
-    match Refusal::of(entry.number()) {
-        None => Ok(entry.address()),
-        Some(refusal) => Err(refusal),
-    }
+    Refusal::of(entry.number()).map_or(Ok(entry.address()), Err)
 }
 
 fn permission(write: bool) -> Permission {

@@ -143,6 +143,7 @@ fn the_entry_of_a_page() {
         (0xFFC_1234_5004 / 4096, 0xFFF_FF04_8D14),
     ] {
         assert_eq!(entry_of_page(page), Ok(address), "page {page:#x}");
+        assert_eq!(mapped().supervisor_load(4, address), Err(Refusal::Outside), "page {page:#x}");
     }
     for page in [0, 1, 0x1F_FFFF, 1 << 32, (1 << 32) + 0x20_0000, u64::MAX] {
         assert_eq!(entry_of_page(page), Err(Refusal::Range), "page {page:#x}");

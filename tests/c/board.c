@@ -80,6 +80,7 @@ static void entries(void) {
     for (size_t i = 0; i < OALEDVA_COUNT(given); i++) {
         const oaledva_entry entry = oaledva_entry_of_page(given[i].page);
         EXPECT(oaledva_entry_number(entry) == 0 && oaledva_entry_address(entry) == given[i].address);
+        EXPECT(gives(oaledva_board_supervisor_load(&outside, 4, given[i].address), OALEDVA_OUTSIDE, 0, 0));
     }
     for (size_t i = 0; i < OALEDVA_COUNT(refused); i++) {
         const oaledva_entry entry = oaledva_entry_of_page(refused[i]);

@@ -17,7 +17,7 @@ use Rattle.address.specs.declared.Region.{Region}
 use Rattle.address.specs.declared.Region.the-variants.{Uncached, Cached, PageTable, Ordinary}
 use Rattle.address.specs.declared.Entry.the-variants.{At, Refused}
 use Rattle.board.specs.declared.Shape.{Shape}
-use Rattle.board.proofs.Bools.{clash, and-left, and-right, cond-both}
+use Rattle.board.proofs.Bools.{clash, and-left, and-right, or-right, cond-both}
 use Rattle.stores.specs.Stores.{Store}
 use Rattle.reach.specs.Reach.{unreached}
 use Rattle.stores.specs.declared.Access.{Access}
@@ -38,6 +38,15 @@ use Rattle.promises.specs.Demand1.{supervisorRows, rowsOf, appliesIn, Lo
 
 row-number : (a : Bool) (m n : ℕ) → (a && eqb m n) ≡ true → m ≡ n
 row-number a m n e = eqb-true m n (and-right a (eqb m n) e)
+
+-- a number that the first row gives, and one that a later row gives
+pub row-here : (r : Row) (rows : List Row) → r .applies ≡ true → appliesIn (r ∷ rows) (r .number) ≡ true
+unfolding appliesIn
+row-here r rows e = rw (e, eq-eqb (r .number) (r .number) refl)
+
+pub row-later : (r : Row) (rows : List Row) (n : ℕ) → appliesIn rows n ≡ true → appliesIn (r ∷ rows) n ≡ true
+unfolding appliesIn
+row-later r rows n e = or-right (r .applies && eqb (r .number) n) (appliesIn rows n) e
 
 -- a number that applies is not below the first
 rising-from : (rows : List Row) (from k : ℕ) → rising from rows ≡ true → appliesIn rows k ≡ true → from ≤ k
@@ -65,7 +74,7 @@ module _ {A : Type 0} (refuse : ℕ → A) (done : A) where
   first : (from : ℕ) (r : Row) (rows : List Row) → from ≤ r .number → rising (suc (r .number)) rows ≡ true → r .applies ≡ true
       → Tabled refuse from (r ∷ rows) done (refuse (r .number))
   unfolding appliesIn
-  first from r rows h up e = stopped (r .number) h (rw (e, eq-eqb (r .number) (r .number) refl)) (λ k q. low k (rw e at q))
+  first from r rows h up e = stopped (r .number) h (row-here r rows e) (λ k q. low k (rw e at q))
     where
       go : (k : ℕ) (t : Bool) → eqb (r .number) k ≡ t → (t || appliesIn rows k) ≡ true → r .number ≤ k
       go k true q z = omega (arith, eqb-true (r .number) k q)

@@ -2,7 +2,7 @@
 use Prim.Native.Nat.{ℕ, _/_, _<_, _≤_}
 use mathlib.Core.Path.{_≡_, refl, sym}
 use mathlib.Core.Bool.{Bool, true, false}
-use mathlib.Core.List.{List}
+use mathlib.Core.List.{List, []}
 use native.Mathlib.Omega.{arith}
 use lib.Dec.{leb, ltb}
 use borrow.Author.Tests.{lt-ltb, le-ltb, lt-leb, ltb-true, ltb-false, leb-true}
@@ -11,6 +11,7 @@ use Rattle.address.specs.Addresses.{globalOf, pageOf, prefixOf, regionOf, attac
 use Rattle.address.specs.Entries.{askedEntry}
 use Rattle.address.specs.declared.Effective.{Effective}
 use Rattle.address.specs.declared.Global.{Global}
+use Rattle.address.specs.declared.Region.{Region}
 use Rattle.address.specs.declared.Region.the-variants.{PageTable}
 use Rattle.address.specs.declared.Entry.the-variants.{At}
 use Rattle.address.proofs.Regions.{region-table}
@@ -19,7 +20,13 @@ use Rattle.board.specs.declared.Shape.{Shape}
 use Rattle.board.specs.declared.Found.the-variants.{Nothing}
 use Rattle.board.proofs.Bools.{and-left}
 use Rattle.pages.specs.Pages.{mappedTo}
+use Rattle.stores.specs.declared.Access.{Access}
+use Rattle.machine.specs.Boards.{Board}
+use Rattle.machine.specs.Refusals.{row, outside}
+use Rattle.machine.specs.Accesses.{frameUnder, supervisorTable}
+use Rattle.promises.specs.Demand1.{appliesIn}
 use Rattle.promises.specs.Entries.{NeverTranslated, EntriesStand}
+use Rattle.promises.proofs.Demand1.{row-here, row-later}
 
 prefixes-by : (g : Global) (t : Bool) → ltb (prefixOf g) 2 ≡ t → ltb (pageOf g) firstPage ≡ t
 prefixes-by g true e = let p = ltb-true (prefixOf g) 2 e in lt-ltb (pageOf g) firstPage (omega (arith, p))
@@ -47,6 +54,16 @@ in-region page g k =
     let d : g .0 / tableBytes ≡ tableIndex = omega (arith, i .0, i .1) in
     sym (region-table g (prefixOf g) refl (λ e. omega (arith, e, d)) (λ e. omega (arith, e, d)) d)
 
+outside-table : (s : Shape) (frame : ℕ) (region : Region) → region ≡ PageTable → outside s frame region ≡ true
+unfolding outside
+outside-table s frame region e = rw e
+
+row-12 : (s : Shape) (b : Board) (a : Access) (g : Global) → regionOf g ≡ PageTable → appliesIn (supervisorTable s b a g) 12 ≡ true
+unfolding supervisorTable
+row-12 s b a g e =
+    row-later _ _ 12 (row-later _ _ 12 (row-later _ _ 12 (row-later _ _ 12 (row-later _ _ 12 (row-later _ _ 12
+    (row-here (row 12 (outside s (frameUnder g) (regionOf g))) [] (outside-table s (frameUnder g) (regionOf g) e)))))))
+
 apart : (p q : ℕ) (g : Global) → askedEntry p ≡ At g → askedEntry q ≡ At g → p ≡ q
 apart p q g k l =
     let i = asked-is p g (sym k) in
@@ -54,4 +71,4 @@ apart p q g k l =
     omega (arith, i .0, j .0)
 
 pub entries-stand : EntriesStand
-entries-stand = record { in-table-region = in-region; apart = apart }
+entries-stand = record { in-table-region = in-region; no-access = λ s b a page g k. row-12 s b a g (in-region page g k); apart = apart }

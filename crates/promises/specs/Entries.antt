@@ -14,6 +14,10 @@ use Rattle.address.specs.declared.Entry.the-variants.{At}
 use Rattle.board.specs.declared.Shape.{Shape}
 use Rattle.board.specs.declared.Found.the-variants.{Nothing}
 use Rattle.pages.specs.Pages.{mappedTo}
+use Rattle.stores.specs.declared.Access.{Access}
+use Rattle.machine.specs.Boards.{Board}
+use Rattle.machine.specs.Accesses.{supervisorTable}
+use Rattle.promises.specs.Demand1.{appliesIn}
 
 pub record NeverTranslated : Type 0 where
   -- an address lies in such a page exactly if its prefix is 0 or 1
@@ -26,5 +30,7 @@ pub record NeverTranslated : Type 0 where
 pub record EntriesStand : Type 0 where
   -- an entry that is given stands in the page table region
   pub in-table-region : (page : ℕ) (g : Global) → askedEntry page ≡ At g → regionOf g ≡ PageTable
+  -- so a supervisor's access to it is refused: row 12 applies, whatever the board
+  pub no-access : (s : Shape) (b : Board) (a : Access) (page : ℕ) (g : Global) → askedEntry page ≡ At g → appliesIn (supervisorTable s b a g) 12 ≡ true
   -- no two pages share an entry
   pub apart : (p q : ℕ) (g : Global) → askedEntry p ≡ At g → askedEntry q ≡ At g → p ≡ q
