@@ -1,6 +1,7 @@
 /* The calls of the board, proved in Rattle, for C (from C99) and C++ (from C++11) on x86-64 Linux. Link liboaledva.a: `make
  * library` builds it, and once it is installed `pkg-config --cflags --libs oaledva` says where it and this file are. It needs
- * memcpy and memset, keeps no data of its own and allocates nothing; attach and detach take some 2 KiB of stack.
+ * memcpy and memset, keeps no data of its own and allocates nothing. Attach and detach take the most stack: one process's slot
+ * words, sizeof(uint32_t) * OALEDVA_SLOTS(1) bytes, and a few registers more, whatever the number of processes.
  *
  * Most programs keep their board in an oaledva_board and use the functions oaledva_board_... at the end of this file. The
  * functions before those take each number and each buffer by itself, for programs that hold the buffers elsewhere; what a
@@ -72,8 +73,8 @@ extern "C" {
 #endif
 
 /* ---- limits and sizes
- * The shape is four numbers: frames F (1 to 1048576), uncached frames U (0 to F), processes P (1 to 16) and lines L (1 to
- * 32768, a power of two). */
+ * The shape is four numbers: frames F, uncached frames U (0 to F), processes P and lines L (a power of two). F, P and L are
+ * from 1 to these. */
 #define OALEDVA_FRAMES_MAX 1048576
 #define OALEDVA_PROCESSES_MAX 16
 #define OALEDVA_LINES_MAX 32768

@@ -13,13 +13,13 @@ use std::ops::DerefMut;
 /// The four numbers of a board.
 #[derive(Clone, Copy, Debug, PartialEq, Eq)]
 pub struct Shape {
-    /// F, frames of 4096 bytes: 1 to 1,048,576.
+    /// F, frames of 4096 bytes: 1 to [`Shape::FRAMES_MAX`].
     pub frames: usize,
     /// U, frames reached only uncached: 0 to F.
     pub uncached: usize,
-    /// P, processes: 1 to 16.
+    /// P, processes: 1 to [`Shape::PROCESSES_MAX`].
     pub processes: usize,
-    /// L, lines of 16 bytes: 1 to 32,768, a power of two.
+    /// L, lines of 16 bytes: 1 to [`Shape::LINES_MAX`], a power of two.
     pub lines: usize,
 }
 

@@ -15,8 +15,8 @@ fn mapped() -> Board {
 fn the_limits_are_the_library_s() {
     for frames in [0, 1, 4] {
         for uncached in [0, frames, frames + 1] {
-            for processes in [0, 1, 16, 17] {
-                for lines in [0, 1, 2, 3, 32_768, 65_536] {
+            for processes in [0, 1, Shape::PROCESSES_MAX, Shape::PROCESSES_MAX + 1] {
+                for lines in [0, 1, 2, 3, Shape::LINES_MAX, 2 * Shape::LINES_MAX] {
                     let shape = Shape { frames, uncached, processes, lines };
                     let (mut slots, mut words) = (vec![0; shape.slots()], vec![0; shape.words()]);
                     let (mut records, mut cache) = (vec![0; shape.records()], vec![0; shape.cache()]);

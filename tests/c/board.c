@@ -17,6 +17,7 @@
 #define PAGE ((uint64_t)0x200000)
 
 OALEDVA_STATIC_BOARD(outside, 4, 1, 2, 2);
+OALEDVA_STATIC_BOARD(largest, 4, 1, OALEDVA_PROCESSES_MAX, OALEDVA_LINES_MAX);
 OALEDVA_STATIC_BOARD(reckoned, 0 ? 3 : 5, 1 ? 1 : 7, 1 + 2, 2 + 2);
 
 /* An answer as 01's tables write it. */
@@ -25,49 +26,50 @@ static int gives(oaledva_answer answer, uint32_t number, uint32_t value, uint32_
            && oaledva_done(answer) == (number == 0);
 }
 
-/* Every call of a board, on a fresh one of F 4, U 1, P 2, L 2. */
+/* Every call of a board, on a fresh one of F 4, U 1 and any P and L, by its last process. */
 static void every_call(oaledva_board *b) {
     const uint64_t name = PAGE * 256;
+    const size_t last = b->processes - 1;
     const oaledva_permission two = {2}; /* anything but 0 says yes */
     EXPECT(gives(oaledva_board_map(b, PAGE, 1, OALEDVA_WRITABLE), 0, 0, 0));
-    EXPECT(gives(oaledva_board_attach(b, 1, 511, 2048, OALEDVA_READ_ONLY), 0, 0, 0));
-    EXPECT(gives(oaledva_board_store(b, 1, 4, 511u << 22, 50), OALEDVA_SLOT_READ_ONLY, 0, 0));
-    EXPECT(gives(oaledva_board_attach(b, 1, 511, 2048, OALEDVA_WRITABLE), 0, 0, 0));
-    EXPECT(gives(oaledva_board_store(b, 1, 4, 511u << 22, 0x01020304), 0, 0, 0));
-    EXPECT(gives(oaledva_board_load(b, 1, 1, (511u << 22) + 3), 0, 4, 1));
+    EXPECT(gives(oaledva_board_attach(b, last, 511, 2048, OALEDVA_READ_ONLY), 0, 0, 0));
+    EXPECT(gives(oaledva_board_store(b, last, 4, 511u << 22, 50), OALEDVA_SLOT_READ_ONLY, 0, 0));
+    EXPECT(gives(oaledva_board_attach(b, last, 511, 2048, OALEDVA_WRITABLE), 0, 0, 0));
+    EXPECT(gives(oaledva_board_store(b, last, 4, 511u << 22, 0x01020304), 0, 0, 0));
+    EXPECT(gives(oaledva_board_load(b, last, 1, (511u << 22) + 3), 0, 4, 1));
     /* An address that does not fit 32 bits, as a global one of an ordinary page, is not cut: it is refused by 5, or by a lower
      * number that applies. */
-    EXPECT(gives(oaledva_board_load(b, 1, 1, PAGE * 4096 + 3), OALEDVA_KERNEL, 0, 0));
-    EXPECT(gives(oaledva_board_store(b, 1, 4, PAGE * 4096, 50), OALEDVA_KERNEL, 0, 0));
-    EXPECT(gives(oaledva_board_load(b, 1, 4, PAGE * 4096 + 3), OALEDVA_ALIGNMENT, 0, 0));
-    EXPECT(gives(oaledva_board_load(b, 2, 1, (uint64_t)1 << 32), OALEDVA_RANGE, 0, 0));
-    EXPECT(gives(oaledva_board_load(b, 1, 1, (uint64_t)1 << 31), OALEDVA_KERNEL, 0, 0));
-    EXPECT(gives(oaledva_board_load(b, 1, 1, ((uint64_t)1 << 32) + (511u << 22) + 3), OALEDVA_KERNEL, 0, 0));
-    EXPECT(gives(oaledva_board_load(b, 1, 1, UINT64_MAX), OALEDVA_KERNEL, 0, 0));
+    EXPECT(gives(oaledva_board_load(b, last, 1, PAGE * 4096 + 3), OALEDVA_KERNEL, 0, 0));
+    EXPECT(gives(oaledva_board_store(b, last, 4, PAGE * 4096, 50), OALEDVA_KERNEL, 0, 0));
+    EXPECT(gives(oaledva_board_load(b, last, 4, PAGE * 4096 + 3), OALEDVA_ALIGNMENT, 0, 0));
+    EXPECT(gives(oaledva_board_load(b, last + 1, 1, (uint64_t)1 << 32), OALEDVA_RANGE, 0, 0));
+    EXPECT(gives(oaledva_board_load(b, last, 1, (uint64_t)1 << 31), OALEDVA_KERNEL, 0, 0));
+    EXPECT(gives(oaledva_board_load(b, last, 1, ((uint64_t)1 << 32) + (511u << 22) + 3), OALEDVA_KERNEL, 0, 0));
+    EXPECT(gives(oaledva_board_load(b, last, 1, UINT64_MAX), OALEDVA_KERNEL, 0, 0));
     EXPECT(oaledva_board_look(b, 256) == b->cache && b->cache[3] == 4 && b->memory[4096 + 3] == 0);
     EXPECT(gives(oaledva_board_flush_all(b), 0, 0, 0));
     EXPECT(oaledva_board_look(b, 256) == b->memory + 4096 && b->memory[4096 + 3] == 4);
     EXPECT(oaledva_board_look(b, 4 * 256) == NULL && oaledva_board_look_number(b, 4 * 256).number == OALEDVA_RANGE);
     EXPECT(oaledva_board_look_number(b, 4 * 256 - 1).number == 0);
     EXPECT(gives(oaledva_board_protect(b, PAGE, OALEDVA_READ_ONLY), 0, 0, 0));
-    EXPECT(gives(oaledva_board_store(b, 1, 1, 511u << 22, 1), OALEDVA_PAGE_READ_ONLY, 0, 0));
+    EXPECT(gives(oaledva_board_store(b, last, 1, 511u << 22, 1), OALEDVA_PAGE_READ_ONLY, 0, 0));
     EXPECT(gives(oaledva_board_supervisor_store(b, 2, PAGE * 4096, 0x0a0b), 0, 0, 0));
     EXPECT(gives(oaledva_board_supervisor_load(b, 4, PAGE * 4096), 0, 0x0a0b0304, 1));
     EXPECT(gives(oaledva_board_unmap(b, PAGE), 0, 0, 0));
     EXPECT(gives(oaledva_board_map(b, PAGE, 3, two), 0, 0, 0));
     EXPECT(gives(oaledva_board_load_and_map(b, 3 * 256), OALEDVA_TAG, 0, 0));
     EXPECT(gives(oaledva_board_tag(b, name), 0, 0, 0) && b->tag.set == 1 && b->tag.name == name);
-    EXPECT(gives(oaledva_board_load(b, 1, 1, 511u << 22), OALEDVA_TAG, 0, 0));
-    EXPECT(gives(oaledva_board_store(b, 1, 1, 511u << 22, 1), OALEDVA_TAG, 0, 0));
+    EXPECT(gives(oaledva_board_load(b, last, 1, 511u << 22), OALEDVA_TAG, 0, 0));
+    EXPECT(gives(oaledva_board_store(b, last, 1, 511u << 22, 1), OALEDVA_TAG, 0, 0));
     EXPECT(gives(oaledva_board_supervisor_load(b, 1, PAGE * 4096), OALEDVA_TAG, 0, 0));
     EXPECT(gives(oaledva_board_supervisor_store(b, 1, PAGE * 4096, 1), OALEDVA_TAG, 0, 0));
     EXPECT(gives(oaledva_board_load_and_map(b, 256), OALEDVA_OTHER_LINE, 0, 0) && b->tag.set == 1);
     EXPECT(gives(oaledva_board_load_and_map(b, 3 * 256), 0, 0, 0) && b->tag.set == 0 && b->tag.name == 0);
-    EXPECT(gives(oaledva_board_store(b, 1, 1, 511u << 22, 1), 0, 0, 1));
+    EXPECT(gives(oaledva_board_store(b, last, 1, 511u << 22, 1), 0, 0, 1));
     EXPECT(gives(oaledva_board_tag(b, name), 0, 0, 0));
     EXPECT(gives(oaledva_board_drop_tag(b), 0, 0, 0) && b->tag.set == 0 && b->tag.name == 0);
-    EXPECT(gives(oaledva_board_detach(b, 1, 511), 0, 0, 0));
-    EXPECT(gives(oaledva_board_load(b, 1, 1, 511u << 22), OALEDVA_SLOT_EMPTY, 0, 0));
+    EXPECT(gives(oaledva_board_detach(b, last, 511), 0, 0, 0));
+    EXPECT(gives(oaledva_board_load(b, last, 1, 511u << 22), OALEDVA_SLOT_EMPTY, 0, 0));
 }
 
 /* The entry of a page, at the ends of what is refused, and three of 01's. */
@@ -160,10 +162,11 @@ static void in_a_block(void) {
 
 /* The limits here are the library's: look is refused where they say so, whatever fits otherwise. */
 static void limits(void) {
-    static const size_t frames[] = {0, 1, 4}, processes[] = {0, 1, 16, 17}, lines[] = {0, 1, 2, 3, 32768, 65536};
-    static uint32_t slots[OALEDVA_SLOTS(17)];
-    static uint64_t words[OALEDVA_WORDS(4)], records[OALEDVA_RECORDS(65536)];
-    static uint8_t cache[OALEDVA_CACHE(65536)], memory[OALEDVA_MEMORY(4)];
+    enum { P_MAX = OALEDVA_PROCESSES_MAX, P_OVER = P_MAX + 1, L_MAX = OALEDVA_LINES_MAX, L_OVER = 2 * L_MAX };
+    static const size_t frames[] = {0, 1, 4}, processes[] = {0, 1, P_MAX, P_OVER}, lines[] = {0, 1, 2, 3, L_MAX, L_OVER};
+    static uint32_t slots[OALEDVA_SLOTS(P_OVER)];
+    static uint64_t words[OALEDVA_WORDS(4)], records[OALEDVA_RECORDS(L_OVER)];
+    static uint8_t cache[OALEDVA_CACHE(L_OVER)], memory[OALEDVA_MEMORY(4)];
     for (int i = 0; i < 3 * 3 * 4 * 6; i++) {
         const size_t F = frames[i % 3], U = i / 3 % 3 == 0 ? 0 : F + (size_t)(i / 3 % 3) - 1;
         const size_t P = processes[i / 9 % 4], L = lines[i / 36];
@@ -174,17 +177,17 @@ static void limits(void) {
         EXPECT(keeps == (oaledva_board_bytes(F, U, P, L) != 0));
     }
     /* Expressions as numbers, and arrays that do not fit. */
-    EXPECT(!OALEDVA_KEEPS_LIMITS(1 ? 4 : 0, 0, 17, 1) && !OALEDVA_KEEPS_LIMITS(4, 1 ? 5 : 0, 1, 1));
+    EXPECT(!OALEDVA_KEEPS_LIMITS(1 ? 4 : 0, 0, P_OVER, 1) && !OALEDVA_KEEPS_LIMITS(4, 1 ? 5 : 0, 1, 1));
     EXPECT(OALEDVA_KEEPS_LIMITS(4, 1, 0 ? 0 : 1, 3 ^ 1) && !OALEDVA_KEEPS_LIMITS(4, 1, 1, 2 | 1));
     {
-        oaledva_board board = OALEDVA_BOARD(4, 1, 17 - 1, 65536 / 2, slots, words, records, cache, memory);
+        oaledva_board board = OALEDVA_BOARD(4, 1, P_OVER - 1, L_OVER / 2, slots, words, records, cache, memory);
         EXPECT(gives(oaledva_board_flush_all(&board), OALEDVA_SHAPE, 0, 0));
-        board.slots_length -= 512, board.records_length /= 2, board.cache_length /= 2;
+        board.slots_length -= OALEDVA_SLOTS(1), board.records_length /= 2, board.cache_length /= 2;
         EXPECT(gives(oaledva_board_flush_all(&board), 0, 0, 0));
     }
     EXPECT(oaledva_board_bytes(4, 1, 2, 2) == 8 * (4 + 4) + 4 * 1024 + 16 * 2 + 4096 * 4);
-    EXPECT(oaledva_board_bytes(OALEDVA_FRAMES_MAX, 0, 16, 32768)
-           == 8 * (1048576 + 65536) + 4 * 8192 + 16 * 32768 + ((uint64_t)1 << 32));
+    EXPECT(oaledva_board_bytes(OALEDVA_FRAMES_MAX, 0, P_MAX, L_MAX)
+           == 8 * (OALEDVA_FRAMES_MAX + 2 * L_MAX) + 4 * 512 * P_MAX + 16 * L_MAX + ((uint64_t)1 << 32));
     EXPECT(oaledva_board_bytes(OALEDVA_FRAMES_MAX + 1, 0, 1, 1) == 0 && oaledva_board_bytes(SIZE_MAX, SIZE_MAX, 1, 1) == 0);
     EXPECT(oaledva_board_bytes(1, SIZE_MAX, 1, 1) == 0 && oaledva_board_bytes(1, 0, SIZE_MAX, SIZE_MAX) == 0);
 }
@@ -193,6 +196,7 @@ int main(void) {
     OALEDVA_STATIC_BOARD(inside, 4, 1, 2, 2);
     every_call(&outside);
     every_call(&inside);
+    every_call(&largest);
     in_static_buffers();
     in_a_block();
     limits();

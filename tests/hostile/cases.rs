@@ -82,8 +82,8 @@ cases! {
     Fresh LookInMemory "look: in memory";
     Fresh OddFlag "a flag is yes by another number than 1";
     Fresh OddSet "a tag is pending by another number than 1";
-    Fresh MostLines "done with L = 32768";
-    Fresh MostProcesses "done with P = 16";
+    Fresh MostLines "done with the most lines";
+    Fresh MostProcesses "done with the most processes";
     Wild HitUnmapped "hit on a page that is not mapped";
     Wild HitElsewhere "hit on a line whose page is mapped elsewhere";
     Wild StoreByRecord "user store by the record's permission, the frame word read-only";
@@ -111,11 +111,11 @@ cases! {
     Wild FramesOver "1 with F over its limit";
     Wild UncachedOver "1 by U over F alone";
     Wild ProcessesZero "1 by P = 0 alone";
-    Wild ProcessesOver "1 by P = 17 alone";
+    Wild ProcessesOver "1 by one process too many alone";
     Wild ProcessesWrap "1 by a P whose slots wrap to the length";
     Wild LinesZero "1 by L = 0 alone";
     Wild LinesNoPower "1 by L with more than one bit set alone";
-    Wild LinesOver "1 by L = 65536 alone";
+    Wild LinesOver "1 by twice the most lines alone";
     Wild LinesWrap "1 by an L whose records and bytes wrap to the lengths";
     Wild SlotsShort "1 by short slots alone";
     Wild SlotsLong "1 by long slots alone";

@@ -6,6 +6,7 @@ use lib.Count.{ones}
 use Rattle.address.specs.Layout.{pageBytes, lineBytes, processSlots}
 use Rattle.board.specs.declared.Shape.{Shape}
 
+-- the most frames, processes and lines
 abbrev pub maxFrames : ℕ
 maxFrames = 1048576
 
@@ -19,7 +20,7 @@ maxLines = 32768
 abbrev pub recordWords : ℕ
 recordWords = 2
 
--- F is 1 to 1,048,576; U is 0 to F; P is 1 to 16; L is 1 to 32,768 and has exactly one bit set
+-- F, P and L are 1 to their limits, U is 0 to F; and L has exactly one bit set
 abbrev pub limitsHold : Shape → Bool
 limitsHold s =
     leb 1 (s .frames) && (leb (s .frames) maxFrames && (leb (s .uncached) (s .frames)

@@ -49,11 +49,12 @@ pub enum Home {
     Nowhere,
 }
 
-const MAX_FRAMES: usize = 1048576;
+// The most frames, processes and lines.
+pub const MAX_FRAMES: usize = 1048576;
 
-const MAX_PROCESSES: usize = 16;
+pub const MAX_PROCESSES: usize = 16;
 
-const MAX_LINES: usize = 32768;
+pub const MAX_LINES: usize = 32768;
 
 pub const PROCESS_SLOTS: usize = 512;
 

@@ -1,36 +1,57 @@
-// Runs the numbers of 01's "Numbers to check" that are to be run, and writes the answers.
+// Runs the numbers of 01's "Numbers to check" that are to be run, the counts of lines and processes by CR 7, and writes the answers.
+ghost use Prim.Native.Nat.{_≤_};
 use address::Effective;
+use board::LINE_BYTES;
+use board::PAGE_BYTES;
+use board::PROCESS_SLOTS;
 use board::Pending;
+use board::RECORD_WORDS;
 use board::Shape;
 use libc::STDOUT_FILENO;
 use slot_calls::attach;
 use stores::Access;
 use user_access::user_access;
 
-// A name and a number, as a line.
-fn write_line(name: &[u8], number: u32) {
-    io::write_all(STDOUT_FILENO, name);
+// The most lines that are taken, and the next count with one bit set; the most processes, and one more.
+const MOST_LINES: usize = 32768;
+
+const OVER_LINES: usize = 65536;
+
+const MOST_PROCESSES: usize = 16;
+
+const OVER_PROCESSES: usize = 17;
+
+// A number, as a line's end.
+fn write_end(number: u32) {
     io::print_decimal(STDOUT_FILENO, number as u64);
     io::write_all(STDOUT_FILENO, b"\n");
 }
 
-// A board of one frame and one process, with this many lines.
-fn shape(lines: usize) -> Shape {
+// A count by its name, and the answer, as a line.
+fn write_count(name: &[u8], count: usize, number: u32) {
+    io::write_all(STDOUT_FILENO, name);
+    io::print_decimal(STDOUT_FILENO, count as u64);
+    io::write_all(STDOUT_FILENO, b": ");
+    write_end(number);
+}
+
+// A board of one frame.
+fn shape(processes: usize, lines: usize) -> Shape {
     Shape {
         frames: 1,
         uncached: 0,
-        processes: 1,
+        processes: processes,
         lines: lines,
     }
 }
 
 // Width 4 at address 2, on a fresh board.
 fn misaligned() -> u32 {
-    let slots: [u32; 512] = [0; 512];
+    let slots: [u32; PROCESS_SLOTS] = [0; PROCESS_SLOTS];
     let words: [u64; 1] = [0; 1];
-    let mut records: [u64; 2] = [0; 2];
-    let mut cache: [u8; 16] = [0; 16];
-    let mut memory: [u8; 4096] = [0; 4096];
+    let mut records: [u64; RECORD_WORDS] = [0; RECORD_WORDS];
+    let mut cache: [u8; LINE_BYTES] = [0; LINE_BYTES];
+    let mut memory: [u8; PAGE_BYTES] = [0; PAGE_BYTES];
     let tag = Pending {
         set: false,
         name: 0,
@@ -41,7 +62,7 @@ fn misaligned() -> u32 {
         value: 0,
     };
     let a = user_access(
-        shape(1),
+        shape(1, 1),
         &slots,
         &words,
         &mut records,
@@ -55,19 +76,20 @@ fn misaligned() -> u32 {
     a.number
 }
 
-// An attach to a fresh board of this many lines.
-fn attached(lines: usize, records: &[u64], cache: &[u8]) -> u32 {
-    let mut slots: [u32; 512] = [0; 512];
+// An attach for the last process of a fresh board.
+fn attached(processes: usize, lines: usize, slots: &mut [u32], records: &[u64], cache: &[u8]) -> u32
+    requires { ⌜ 1 ≤ processes ⌝ }
+{
     let words: [u64; 1] = [0; 1];
-    let memory: [u8; 4096] = [0; 4096];
+    let memory: [u8; PAGE_BYTES] = [0; PAGE_BYTES];
     let a = attach(
-        shape(lines),
-        &mut slots,
+        shape(processes, lines),
+        slots,
         &words,
         records,
         cache,
         &memory,
-        0,
+        processes - 1,
         0,
         2048,
         true,
@@ -75,35 +97,64 @@ fn attached(lines: usize, records: &[u64], cache: &[u8]) -> u32 {
     a.number
 }
 
-// The same for each line count: the buffers have two words and sixteen bytes a line.
-fn three_lines() -> u32 {
-    let records: [u64; 6] = [0; 6];
-    let cache: [u8; 48] = [0; 48];
-    attached(3, &records, &cache)
+// With one process and this many lines. The buffers below are as long as the count says, so it is the count that is refused.
+fn with_lines(lines: usize, records: &[u64], cache: &[u8]) {
+    let mut slots: [u32; PROCESS_SLOTS] = [0; PROCESS_SLOTS];
+    let number = attached(1, lines, &mut slots, records, cache);
+    write_count(b"L = ", lines, number);
 }
 
-fn no_lines() -> u32 {
+// With one line and this many processes.
+fn with_processes(processes: usize, slots: &mut [u32])
+    requires { ⌜ 1 ≤ processes ⌝ }
+{
+    let records: [u64; RECORD_WORDS] = [0; RECORD_WORDS];
+    let cache: [u8; LINE_BYTES] = [0; LINE_BYTES];
+    let number = attached(processes, 1, slots, &records, &cache);
+    write_count(b"P = ", processes, number);
+}
+
+fn three_lines() {
+    let records: [u64; RECORD_WORDS * 3] = [0; RECORD_WORDS * 3];
+    let cache: [u8; LINE_BYTES * 3] = [0; LINE_BYTES * 3];
+    with_lines(3, &records, &cache);
+}
+
+fn no_lines() {
     let records: [u64; 0] = [0; 0];
     let cache: [u8; 0] = [0; 0];
-    attached(0, &records, &cache)
+    with_lines(0, &records, &cache);
 }
 
-fn most_lines() -> u32 {
-    let records: [u64; 65536] = [0; 65536];
-    let cache: [u8; 524288] = [0; 524288];
-    attached(32768, &records, &cache)
+fn most_lines() {
+    let records: [u64; RECORD_WORDS * MOST_LINES] = [0; RECORD_WORDS * MOST_LINES];
+    let cache: [u8; LINE_BYTES * MOST_LINES] = [0; LINE_BYTES * MOST_LINES];
+    with_lines(MOST_LINES, &records, &cache);
 }
 
-fn too_many_lines() -> u32 {
-    let records: [u64; 131072] = [0; 131072];
-    let cache: [u8; 1048576] = [0; 1048576];
-    attached(65536, &records, &cache)
+fn over_lines() {
+    let records: [u64; RECORD_WORDS * OVER_LINES] = [0; RECORD_WORDS * OVER_LINES];
+    let cache: [u8; LINE_BYTES * OVER_LINES] = [0; LINE_BYTES * OVER_LINES];
+    with_lines(OVER_LINES, &records, &cache);
+}
+
+fn most_processes() {
+    let mut slots: [u32; PROCESS_SLOTS * MOST_PROCESSES] = [0; PROCESS_SLOTS * MOST_PROCESSES];
+    with_processes(MOST_PROCESSES, &mut slots);
+}
+
+fn over_processes() {
+    let mut slots: [u32; PROCESS_SLOTS * OVER_PROCESSES] = [0; PROCESS_SLOTS * OVER_PROCESSES];
+    with_processes(OVER_PROCESSES, &mut slots);
 }
 
 fn main() {
-    write_line(b"width 4 at address 2: ", misaligned());
-    write_line(b"L = 3: ", three_lines());
-    write_line(b"L = 0: ", no_lines());
-    write_line(b"L = 32768: ", most_lines());
-    write_line(b"L = 65536: ", too_many_lines());
+    io::write_all(STDOUT_FILENO, b"width 4 at address 2: ");
+    write_end(misaligned());
+    three_lines();
+    no_lines();
+    most_lines();
+    over_lines();
+    most_processes();
+    over_processes();
 }

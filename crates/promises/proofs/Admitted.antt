@@ -8,7 +8,7 @@ use native.Mathlib.Omega.{arith}
 use lib.Dec.{eqb}
 use lib.ListN.{length, getD}
 use borrow.Author.Tests.{eqb-true, eqb-false, eq-eqb, ltb-true, leb-false, not-false}
-use Rattle.address.specs.Layout.{kernelStart}
+use Rattle.address.specs.Layout.{kernelStart, processSlots}
 use Rattle.address.specs.Addresses.{slotOf, pageOf}
 use Rattle.address.specs.declared.Effective.{Effective}
 use Rattle.slots.specs.Slots.{slotIndex, slotSegment, slotWrites, slotEmpty}
@@ -53,7 +53,7 @@ UserPassed s p process a e =
 pub record Admitted (s : Shape) (p : Plain) (process : ℕ) (a : Access) (e : Effective) : Type 0 where
   pub facts : Shaped s (length (p .slots)) (length (p .words)) (p .recordsLength) (p .cacheLength) (length (p .memory))
   pub process-low : process < s .processes
-  pub slot-low : slotOf e < 512
+  pub slot-low : slotOf e < processSlots
   pub not-empty : slotEmpty (slotWordAt (p .slots) process e) ≡ false
   pub may-write : a .store ≡ true → slotWrites (slotWordAt (p .slots) process e) ≡ true
   pub mapped : Mapped s (p .words) (pageOf (userGlobal (p .slots) process e)) (addressFrame s p (userGlobal (p .slots) process e))
@@ -81,12 +81,12 @@ pub admitted-holds : (s : Shape) (p : Plain) (process : ℕ) (a : Access) (e : E
     → holds (p .slots) process (slotSegment (slotWordAt (p .slots) process e)) ≡ true
 admitted-holds s p process a e r =
     let w = slotWordAt (p .slots) process e in
-    some-slot (wordHolds (slotSegment w)) (p .slots) process (slotOf e) 512 (r .slot-low)
+    some-slot (wordHolds (slotSegment w)) (p .slots) process (slotOf e) processSlots (r .slot-low)
     (rw (r .not-empty, eq-eqb (slotSegment w) (slotSegment w) refl))
 
 pub admitted-writes : (s : Shape) (p : Plain) (process : ℕ) (a : Access) (e : Effective) → Admitted s p process a e → a .store ≡ true
     → holdsForWriting (p .slots) process (slotSegment (slotWordAt (p .slots) process e)) ≡ true
 admitted-writes s p process a e r st =
     let w = slotWordAt (p .slots) process e in
-    some-slot (wordWritesTo (slotSegment w)) (p .slots) process (slotOf e) 512 (r .slot-low)
+    some-slot (wordWritesTo (slotSegment w)) (p .slots) process (slotOf e) processSlots (r .slot-low)
     (rw (r .not-empty, eq-eqb (slotSegment w) (slotSegment w) refl, r .may-write st))

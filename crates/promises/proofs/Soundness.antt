@@ -7,6 +7,7 @@ use mathlib.Core.List.{List}
 use native.Mathlib.Omega.{arith}
 use native.Mathlib.Nat.{div-one}
 use lib.ListN.{getD}
+use Rattle.address.specs.Layout.{processSlots}
 use Rattle.pages.specs.Pages.{homeOf, namesPage}
 use Rattle.board.specs.declared.Shape.{Shape}
 use Rattle.board.specs.declared.Found.{Found}
@@ -99,7 +100,7 @@ fresh-empty s b x i h = clash _ (and-left (lineAt (b .store .records) i .valid) 
 pub fresh-zeros : (s : Shape) (cache memory : List ℕ) → Fresh (fresh s cache memory)
 unfolding lineAt
 fresh-zeros s cache memory = record {
-  no-slot = λ i. zeros-at (s .processes * 512) i;
+  no-slot = λ i. zeros-at (s .processes * processSlots) i;
   no-word = λ f. zeros-at (s .frames) f;
   no-line = λ i. rw (zeros-at (2 * s .lines) (2 * i + 1));
   no-tag = refl;

@@ -2,6 +2,10 @@
 // the answer, the two lines, and the frame word (protect) or two bytes of memory (flush all) after it.
 // Line 0's place is 0, line 1's is 1; memory has physical lines 0 to 255; the page 0x200000 is mapped to frame 0, writable.
 ghost use Prim.Native.Nat.{_≤_};
+use board::MAX_FRAMES;
+use board::MAX_LINES;
+use board::MAX_PROCESSES;
+use board::PROCESS_SLOTS;
 use board::Shape;
 use libc::STDOUT_FILENO;
 use lines::Line;
@@ -14,6 +18,15 @@ const NAME: u64 = 536870912;
 
 // The word of the page's frame: page × 4 + 2 + 1.
 const WORD: u64 = 8388611;
+
+// The first numbers past their limits (of lines, the next with one bit set), and the slots of so many processes.
+const OVER_FRAMES: usize = MAX_FRAMES + 1;
+
+const OVER_PROCESSES: usize = MAX_PROCESSES + 1;
+
+const OVER_LINES: usize = 2 * MAX_LINES;
+
+const OVER_SLOTS: usize = PROCESS_SLOTS * OVER_PROCESSES;
 
 // How many rows there are of each call.
 const ROWS: u64 = 17;
@@ -61,15 +74,15 @@ fn given(row: u64) -> Sizes {
         7 => sized(1, 0, 1, 1, 512, 1, 16, 4096),
         8 => sized(1, 0, 1, 2, 512, 1, 31, 4096),
         9 => sized(1, 0, 1, 2, 512, 1, 32, 4095),
-        // F 0 and 1,048,577; U above F; P 0 and 17; L 0, 3 and 65,536
+        // F 0 and over its limit; U above F; P 0 and over; L 0, 3 and over
         10 => sized(0, 0, 1, 2, 512, 0, 32, 0),
-        11 => sized(1048577, 0, 1, 2, 512, 1, 32, 4096),
+        11 => sized(OVER_FRAMES, 0, 1, 2, 512, 1, 32, 4096),
         12 => sized(1, 2, 1, 2, 512, 1, 32, 4096),
         13 => sized(1, 0, 0, 2, 0, 1, 32, 4096),
-        14 => sized(1, 0, 17, 2, 8704, 1, 32, 4096),
+        14 => sized(1, 0, OVER_PROCESSES, 2, OVER_SLOTS, 1, 32, 4096),
         15 => sized(1, 0, 1, 0, 512, 1, 0, 4096),
         16 => sized(1, 0, 1, 3, 512, 1, 32, 4096),
-        17 => sized(1, 0, 1, 65536, 512, 1, 32, 4096),
+        17 => sized(1, 0, 1, OVER_LINES, 512, 1, 32, 4096),
         _ => sized(1, 0, 1, 2, 512, 1, 32, 4096),
     }
 }
@@ -269,7 +282,7 @@ fn flushes(slots: &[u32], cache: &[u8], memory: &mut [u8]) {
 
 // Cache line 0 is all 5, line 1 begins with 9.
 fn main() {
-    let slots: [u32; 8704] = [0; 8704];
+    let slots: [u32; OVER_SLOTS] = [0; OVER_SLOTS];
     let mut cache: [u8; 32] = [5; 32];
     cache[16] = 9;
     let mut memory: [u8; 4096] = [0; 4096];

@@ -7,7 +7,7 @@ use native.Mathlib.Omega.{arith}
 use lib.Dec.{leb, ltb}
 use lib.ListN.{length, set}
 use borrow.Author.Tests.{leb-true, ltb-true}
-use Rattle.address.specs.Layout.{firstSegment, lastSegment}
+use Rattle.address.specs.Layout.{firstSegment, lastSegment, processSlots}
 use Rattle.address.specs.Addresses.{attachable}
 use Rattle.board.specs.Answers.{answer}
 use Rattle.board.specs.Shapes.{fitsShape}
@@ -23,12 +23,12 @@ use Rattle.machine.specs.Calls.{attach, detach}
 
 -- the three ranges of attach, the last one by a call
 pub ranges-by : (s : Shape) (process slot segment : ℕ) (a : Bool) → a ≡ attachable segment
-    → (ltb process (s .processes) && (ltb slot 512 && a)) ≡ (isProcess s process && (isSlot slot && attachable segment))
+    → (ltb process (s .processes) && (ltb slot processSlots && a)) ≡ (isProcess s process && (isSlot slot && attachable segment))
 ranges-by s process slot segment a e = rw e
 
 -- the slots of a process stand inside the list
 pub process-room : (s : Shape) (slots w r c m : List ℕ) (t : Bool) → t ≡ fitsShape s (length slots) (length w) (length r) (length c) (length m) → t ≡ true
-    → (process : ℕ) (u v : Bool) → u ≡ (isProcess s process && v) → u ≡ true → slotIndex process 512 ≤ length slots
+    → (process : ℕ) (u v : Bool) → u ≡ (isProcess s process && v) → u ≡ true → slotIndex process processSlots ≤ length slots
 process-room s slots w r c m t f h process u v e k =
     let z = shaped s (length slots) (length w) (length r) (length c) (length m) t f h .slots-are in
     let y = ltb-true process (s .processes) (and-left (ltb process (s .processes)) v (sym e ∙ k)) in
@@ -38,16 +38,16 @@ module _ (s : Shape) (process slot segment : ℕ) (u : Bool) (e : u ≡ (isProce
   ranges : (isSlot slot && attachable segment) ≡ true
   ranges = and-right (isProcess s process) (isSlot slot && attachable segment) (sym e ∙ k)
 
-  pub attach-slot-below : slot < 512
-  attach-slot-below = ltb-true slot 512 (and-left (isSlot slot) (attachable segment) ranges)
+  pub attach-slot-below : slot < processSlots
+  attach-slot-below = ltb-true slot processSlots (and-left (isSlot slot) (attachable segment) ranges)
 
   pub attach-segment-below : segment < 2 ^ 22
   attach-segment-below =
       let z = leb-true segment lastSegment (and-right (leb firstSegment segment) _ (and-right (isSlot slot) (attachable segment) ranges)) in
       omega arith
 
-pub detach-slot-below : (s : Shape) (process slot : ℕ) (u : Bool) → u ≡ (isProcess s process && isSlot slot) → u ≡ true → slot < 512
-detach-slot-below s process slot u e k = ltb-true slot 512 (and-right (isProcess s process) (isSlot slot) (sym e ∙ k))
+pub detach-slot-below : (s : Shape) (process slot : ℕ) (u : Bool) → u ≡ (isProcess s process && isSlot slot) → u ≡ true → slot < processSlots
+detach-slot-below s process slot u e k = ltb-true slot processSlots (and-right (isProcess s process) (isSlot slot) (sym e ∙ k))
 
 module _ (s : Shape) (slots w r c m : List ℕ) (tag : Pending) (t : Bool) (f : t ≡ fitsShape s (length slots) (length w) (length r) (length c) (length m))
     (h : t ≡ true) (process slot : ℕ) (u : Bool) (a : Answer) where

@@ -21,7 +21,7 @@ fn copy_words(dst: &mut [u32], src: &[u32])
 
 // The slots of one process, by value.
 pub struct Slots {
-    pub words: [u32; 512],
+    pub words: [u32; PROCESS_SLOTS],
 }
 
 impl Slots {
@@ -51,7 +51,7 @@ fn slots_of(slots: &[u32], process: usize) -> Slots
     ensures { λ r. ⌜ r .words ≡ part (now (slots .entry)) (slotIndex process 0) processSlots ⌝ }
 {
     let a = process * PROCESS_SLOTS;
-    let mut words: [u32; 512] = [0; 512];
+    let mut words: [u32; PROCESS_SLOTS] = [0; PROCESS_SLOTS];
     copy_words(&mut words, &slots[a..a + PROCESS_SLOTS]);
     Slots { words: words }
 }

@@ -7,7 +7,7 @@ use native.Mathlib.Omega.{arith}
 use lib.ListN.{length, getD}
 use lib.Dec.{eqb, leb}
 use borrow.Author.Tests.{leb-true, leb-false, not-false, lt-ltb, le-ltb, lt-leb}
-use Rattle.address.specs.Layout.{firstSegment, lastSegment, kernelStart}
+use Rattle.address.specs.Layout.{firstSegment, lastSegment, kernelStart, processSlots}
 use Rattle.address.specs.Addresses.{slotOf, globalOf, isKernels, attachable}
 use Rattle.address.specs.declared.Effective.{Effective}
 use Rattle.address.specs.declared.Global.{Global}
@@ -49,7 +49,7 @@ process-below processes process set o = leb-false processes process (or-false (l
 
 -- the slot of an address that is not the kernel's is inside the slots of its process
 pub slot-inside : (s : Shape) (slots : List ℕ) (tag : Pending) (process slot : ℕ) (e : Effective) (k : Bool) → k ≡ isKernels e → k ≡ false → slot ≡ slotOf e
-    → (leb (s .processes) process || tag .set) ≡ false → length slots ≡ s .processes * 512 → process * 512 + slot < length slots
+    → (leb (s .processes) process || tag .set) ≡ false → length slots ≡ s .processes * processSlots → process * processSlots + slot < length slots
 slot-inside s slots tag process slot e k f h i o n = omega (arith, leb-false kernelStart (e .0) (sym f ∙ h), process-below (s .processes) process (tag .set) o)
 
 -- numbers 2 to 5
@@ -79,7 +79,7 @@ module _ (s : Shape) (slots : List ℕ) (tag : Pending) (process : ℕ) (a : Acc
         unfolding userCheck byTable
         check-kernels j = rw (lt-ltb _ _ p, t, ← f, h, ← i, j)
 
-        pub check-slot : (slot : ℕ) (c : Check) → k ≡ false → slot ≡ slotOf e → c ≡ slotCheck (getD slots (process * 512 + slot) 0) a e
+        pub check-slot : (slot : ℕ) (c : Check) → k ≡ false → slot ≡ slotOf e → c ≡ slotCheck (getD slots (process * processSlots + slot) 0) a e
             → c ≡ userCheck s slots tag process a e
         unfolding userCheck slotCheck byTable
         check-slot slot c j l m = m ∙ rw (l, lt-ltb _ _ p, t, ← f, h, ← i, j)

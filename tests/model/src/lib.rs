@@ -26,8 +26,11 @@ pub const SEGMENT_LAST: u64 = 4_190_207;
 /// "Map, unmap and protect take ordinary pages only, 0x200000 to 0xFFBFFFFF."
 pub const PAGE_FIRST: u64 = 0x20_0000;
 pub const PAGE_LAST: u64 = 0xFFBF_FFFF;
+/// "F frames of 4096 bytes, 1 to 1,048,576."
 pub const FRAMES_MAX: u64 = 1_048_576;
+/// "P processes, 1 to 16"
 pub const PROCESSES_MAX: u64 = 16;
+/// "L lines of 16 bytes, L from 1 to 32,768"
 pub const LINES_MAX: u64 = 32_768;
 
 // ---------------------------------------------------------------------------------------------
@@ -145,8 +148,7 @@ pub struct Shape {
     pub lines: u64,
 }
 
-/// "F frames of 4096 bytes, 1 to 1,048,576. Frames below U (0 to F) ... P processes, 1 to 16 ...
-/// L from 1 to 32,768, and L must have exactly one bit set."
+/// F, P and L from 1 to their limits, "Frames below U (0 to F)", "and L must have exactly one bit set."
 pub fn limits_hold(s: &Shape) -> bool {
     (1..=FRAMES_MAX).contains(&s.frames)
         && s.uncached <= s.frames

@@ -113,11 +113,13 @@ fn line_counts() {
 
 #[test]
 fn largest_cache() {
-    let mut b = Board::fresh(shape(3, 0, 16, 32_768));
+    let last = PROCESSES_MAX - 1;
+    let mut b = Board::fresh(shape(3, 0, PROCESSES_MAX, LINES_MAX));
     assert_eq!(b.map(0xFFBF_FFFF, 2, true), done(0, 0));
-    assert_eq!(b.attach(15, 511, 4_190_207, true), done(0, 0));
-    assert_eq!(b.user_access(15, true, 4, 0x7FFF_FFFC, 0x0708_090A), done(0, 0));
-    assert_eq!(b.record(32_767), rec(0xFF_BFFF_FFFF, 2 * 256 + 255, true, true));
+    assert_eq!(b.attach(last + 1, 511, 4_190_207, true), no(2));
+    assert_eq!(b.attach(last, 511, 4_190_207, true), done(0, 0));
+    assert_eq!(b.user_access(last, true, 4, 0x7FFF_FFFC, 0x0708_090A), done(0, 0));
+    assert_eq!(b.record(LINES_MAX - 1), rec(0xFF_BFFF_FFFF, 2 * 256 + 255, true, true));
     assert_eq!(b.look(2 * 256 + 255).1[12..], [7, 8, 9, 10]);
     assert_eq!(b.unmap(0xFFBF_FFFF), done(0, 0));
     assert_eq!(b.memory[3 * 4096 - 4..], [7, 8, 9, 10]);

@@ -408,10 +408,10 @@ fn number_1_for_every_call() {
         |b| *b = Board::fresh(shape(0, 0, 2, 2)),
         |b| *b = Board::fresh(shape(4, 5, 2, 2)),
         |b| *b = Board::fresh(shape(4, 1, 0, 2)),
-        |b| *b = Board::fresh(shape(4, 1, 17, 2)),
+        |b| *b = Board::fresh(shape(4, 1, PROCESSES_MAX + 1, 2)),
         |b| *b = Board::fresh(shape(4, 1, 2, 0)),
         |b| *b = Board::fresh(shape(4, 1, 2, 3)),
-        |b| *b = Board::fresh(shape(4, 1, 2, 65_536)),
+        |b| *b = Board::fresh(shape(4, 1, 2, 2 * LINES_MAX)),
     ];
     for call in every_call() {
         let mut fine = ready_for(&call);

@@ -9,7 +9,7 @@ use Rattle.numbers.proofs.most_lines.Tie as tie
 pub most-lines-spec : {M : Type 1} → statement M
 most-lines-spec =
     tie.close (tie.spec
-    (λ c. sym (length-replicate {A = ℕ} 65536 0))
-    (λ c. sym (length-replicate {A = ℕ} 524288 0))
+    (λ c. sym (length-replicate {A = ℕ} _ 0))
+    (λ c. sym (length-replicate {A = ℕ} _ 0))
     (search needs)
     (search needs))
