@@ -1,7 +1,8 @@
-//! What was reached: each refusal number of each call, each case, each route of each call; and what must be.
+//! What was reached: each refusal number of each call, each case, each route of each call, each call at the limits of P and L;
+//! and what must be.
 
 use crate::cases::{Case, Reach, CASES};
-use crate::limits::ENTRY_PAGES;
+use crate::limits::{ENTRY_PAGES, LINES_MAX, PROCESSES_MAX};
 use crate::routes::{Route, ROUTES};
 use crate::trace::Deed;
 use model::Call;
@@ -53,6 +54,32 @@ fn row_of(deed: &Deed) -> Option<usize> {
     })
 }
 
+/// A board at a limit of P or L, where every call and every look must be done, or past it, where each must be refused by 1.
+pub struct Edge {
+    words: &'static str,
+    pub processes: u64,
+    pub lines: u64,
+    number: u32,
+}
+
+pub const EDGES: [Edge; 4] = [
+    Edge { words: "done with the most processes", processes: PROCESSES_MAX, lines: 4, number: 0 },
+    Edge { words: "refused by 1 for one process too many", processes: PROCESSES_MAX + 1, lines: 4, number: 1 },
+    Edge { words: "done with the most lines", processes: 2, lines: LINES_MAX, number: 0 },
+    Edge { words: "refused by 1 for twice the most lines", processes: 2, lines: 2 * LINES_MAX, number: 1 },
+];
+
+impl Edge {
+    /// Whether such a board may be fresh; it may always be wild. Number 1 cannot come on a fresh one.
+    pub fn boards(&self) -> &'static [bool] {
+        if self.number == 0 {
+            &[true, false]
+        } else {
+            &[false]
+        }
+    }
+}
+
 /// Whether this call may give this number.
 pub fn in_table(deed: &Deed, number: u32) -> bool {
     row_of(deed).map_or(true, |row| KINDS[row].1.contains(&number))
@@ -65,12 +92,15 @@ struct Counts {
     cases: [u64; CASES.len()],
     /// The pages of `ENTRY_PAGES` by each route.
     entries: [[u64; ENTRY_PAGES.len()]; ROUTES.len()],
+    /// The calls and looks on the boards of `EDGES`, by each route, that gave the number they must.
+    edges: [[[u64; ENTRIES]; ROUTES.len()]; EDGES.len()],
 }
 
 const NONE: Counts = Counts {
     numbers: [[0; NUMBERS]; KINDS.len()],
     cases: [0; CASES.len()],
     entries: [[0; ENTRY_PAGES.len()]; ROUTES.len()],
+    edges: [[[0; ENTRIES]; ROUTES.len()]; EDGES.len()],
 };
 
 #[derive(Clone)]
@@ -79,6 +109,8 @@ pub struct Coverage {
     wild: Counts,
     routes: [[u64; KINDS.len()]; ROUTES.len()],
     pub boards: u64,
+    /// The board of `EDGES` that is being run, if one is.
+    pub edge: Option<usize>,
     /// Audits of boards, and the looks in them.
     pub audits: u64,
     pub audit_looks: u64,
@@ -90,7 +122,17 @@ pub struct Coverage {
 impl Coverage {
     pub fn new() -> Coverage {
         let routes = [[0; KINDS.len()]; ROUTES.len()];
-        Coverage { fresh: NONE, wild: NONE, routes, boards: 0, audits: 0, audit_looks: 0, pairs: 0, pairs_apart: 0 }
+        Coverage {
+            fresh: NONE,
+            wild: NONE,
+            routes,
+            boards: 0,
+            edge: None,
+            audits: 0,
+            audit_looks: 0,
+            pairs: 0,
+            pairs_apart: 0,
+        }
     }
 
     pub fn count(&mut self, fresh: bool, deed: &Deed, route: Route, number: u32, cases: &[Case]) {
@@ -98,6 +140,9 @@ impl Coverage {
         if let Some(row) = row_of(deed) {
             counts.numbers[row][number as usize] += 1;
             self.routes[route as usize][row] += 1;
+            if let Some(edge) = self.edge.filter(|&edge| row < ENTRIES && number == EDGES[edge].number) {
+                counts.edges[edge][route as usize][row] += 1;
+            }
         }
         for &case in cases {
             counts.cases[case as usize] += 1;
@@ -147,6 +192,16 @@ impl Coverage {
                 for (count, page) in counts.iter_mut().zip(ENTRY_PAGES) {
                     let words = format!("the entry of page {page:#x} by the {route} route, on a {board} board");
                     cells.push((words, count));
+                }
+            }
+            for (counts, edge) in counts.edges.iter_mut().zip(&EDGES) {
+                if edge.boards().contains(&(board == "fresh")) {
+                    for (counts, (_, route)) in counts.iter_mut().zip(&ROUTES) {
+                        for (count, (call, _)) in counts.iter_mut().zip(&KINDS) {
+                            let words = edge.words;
+                            cells.push((format!("{call}, {words}, by the {route} route, on a {board} board"), count));
+                        }
+                    }
                 }
             }
         }

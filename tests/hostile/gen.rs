@@ -73,7 +73,7 @@ pub fn shape(rng: &mut Rng) -> Shape {
     Shape { frames, uncached, processes, lines }
 }
 
-fn offsets(rng: &mut Rng) -> [usize; 5] {
+pub fn offsets(rng: &mut Rng) -> [usize; 5] {
     [0; 5].map(|_: usize| rng.below(OFFSETS as u64) as usize)
 }
 
@@ -91,9 +91,19 @@ pub fn fresh(rng: &mut Rng, shape: Shape) -> Start {
     Start { fresh: true, board, offsets: offsets(rng) }
 }
 
-/// A board that no sequence of calls reaches.
+/// A board that no sequence of calls reaches, or whose numbers and lengths disagree.
 pub fn wild(rng: &mut Rng) -> (Start, World) {
-    let mut board = Board::fresh(shape(rng));
+    let shape = shape(rng);
+    let (mut board, world) = wild_board(rng, shape);
+    if rng.percent(30) {
+        spoil(rng, &mut board);
+    }
+    (Start { fresh: false, board, offsets: offsets(rng) }, world)
+}
+
+/// A board of this shape that no sequence of calls reaches.
+pub fn wild_board(rng: &mut Rng, shape: Shape) -> (Board, World) {
+    let mut board = Board::fresh(shape);
     let world = World::new(rng, &board.shape);
     rng.fill(&mut board.memory);
     rng.fill(&mut board.cache);
@@ -117,10 +127,7 @@ pub fn wild(rng: &mut Rng) -> (Start, World) {
         9 => (true, wild_name(rng, &world, &board)),
         _ => (true, world.name(rng)),
     };
-    if rng.percent(30) {
-        spoil(rng, &mut board);
-    }
-    (Start { fresh: false, board, offsets: offsets(rng) }, world)
+    (board, world)
 }
 
 fn wild_slot(rng: &mut Rng, world: &World) -> u32 {
@@ -223,7 +230,8 @@ fn spoil(rng: &mut Rng, board: &mut Board) {
         21 => board.shape.uncached += 1 << 32,
         22 => board.shape.lines += 1 << 32,
         _ => {
-            let wrong = rng.pick(&[0, 3, 17, 512, frames + 1, lines - 1, uncached + 1, 65536, 1 << 20, u64::MAX]);
+            let over = rng.pick(&[PROCESSES_MAX + 1, 2 * LINES_MAX]);
+            let wrong = rng.pick(&[0, 3, over, SLOTS, frames + 1, lines - 1, uncached + 1, FRAMES_MAX, u64::MAX]);
             match rng.below(4) {
                 0 => board.shape.frames = wrong,
                 1 => board.shape.uncached = wrong,

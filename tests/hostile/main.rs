@@ -4,6 +4,7 @@
 mod apart;
 mod cases;
 mod coverage;
+mod edges;
 mod gen;
 mod guarded;
 mod largest;
@@ -20,7 +21,7 @@ mod trace;
 use apart::End;
 use coverage::Coverage;
 use gen::World;
-use model::Answer;
+use model::{Answer, Board};
 use pairs::Failure;
 use plant::Plant;
 use rng::Rng;
@@ -124,7 +125,6 @@ pub fn search(rng: &mut Rng, calls: u64, plant: Option<Plant>, coverage: &mut Co
             gen::wild(rng)
         };
         board(rng, start, &world, plant, coverage)?;
-        coverage.boards += 1;
         if coverage.boards % BOARDS_PER_PAIR == 0 {
             pairs::pair(rng, coverage, false)?;
         }
@@ -147,20 +147,34 @@ fn board(
         (false, _) if !start.board.fits() => 14,
         (false, _) => 40,
     };
+    let fresh = start.fresh;
+    stepped(start, length, plant, coverage, |index, model| {
+        if fresh && (index + 1 == length || rng.below(200) == 0) {
+            Step { deed: Deed::Audit, manner: gen::manner(rng) }
+        } else {
+            gen::step(rng, world, model, fresh && index < 12)
+        }
+    })
+}
+
+/// A run of so many steps, each made with an eye on the board as it stands.
+pub fn stepped(
+    start: Start,
+    length: usize,
+    plant: Option<Plant>,
+    coverage: &mut Coverage,
+    mut next: impl FnMut(usize, &Board) -> Step,
+) -> Result<(), Failure> {
     let mut run = Run::new(&start, plant);
     let mut trace = Trace { start, steps: Vec::with_capacity(length), plant };
     for index in 0..length {
-        let audit = trace.start.fresh && (index + 1 == length || rng.below(200) == 0);
-        let step = if audit {
-            Step { deed: Deed::Audit, manner: gen::manner(rng) }
-        } else {
-            gen::step(rng, world, &run.model, trace.start.fresh && index < 12)
-        };
+        let step = next(index, &run.model);
         trace.steps.push(step);
         if let Err(difference) = run.step(&step, coverage) {
             return Err(Failure::Run(Box::new(trace), difference));
         }
     }
+    coverage.boards += 1;
     Ok(())
 }
 
@@ -169,7 +183,10 @@ fn search_and_report(options: &Options) -> Result<(), String> {
         return Err(problem);
     }
     let mut coverage = Coverage::new();
-    match search(&mut Rng::new(options.seed), options.calls, options.plant, &mut coverage) {
+    let mut rng = Rng::new(options.seed);
+    let outcome = search(&mut rng, options.calls, options.plant, &mut coverage)
+        .and_then(|()| edges::edges(&mut rng, options.plant, &mut coverage));
+    match outcome {
         Ok(()) => {}
         Err(Failure::Run(trace, difference)) => return Err(report(run::first_difference, *trace, difference)?),
         Err(Failure::Apart(traces, text)) => return Err(report_pair(&traces, &text)?),

@@ -10,7 +10,7 @@ use crate::rng::Rng;
 use crate::run::{first_difference, quietly, Difference, Kind};
 use crate::shrink::{self, Fails};
 use crate::trace::{self, Trace};
-use crate::{apart, routes, search};
+use crate::{apart, edges, routes, search};
 use model::{Board, Shape};
 
 /// Calls within which a planted fault must be found.
@@ -29,6 +29,8 @@ pub fn all() -> Result<(), String> {
     println!("planted fault hang          ended by a signal");
     planted_pair()?;
     println!("planted fault in a pair of runs found");
+    planted_edge()?;
+    println!("planted fault on a board at a limit found");
     canaries()?;
     println!("each canary, changed, is named");
     let required = unreached()?;
@@ -98,6 +100,14 @@ fn planted_pair() -> Result<(), String> {
     match pairs::pair(&mut Rng::new(7), &mut Coverage::new(), true) {
         Err(Failure::Apart(..)) => Ok(()),
         _ => Err("planted fault in a pair of runs: not found".into()),
+    }
+}
+
+fn planted_edge() -> Result<(), String> {
+    let plant = Plant::Slots;
+    match edges::edges(&mut Rng::new(7), Some(plant), &mut Coverage::new()) {
+        Err(Failure::Run(_, difference)) if difference.kind == plant.found_as() => Ok(()),
+        _ => Err("planted fault on a board at a limit: not found".into()),
     }
 }
 

@@ -1,0 +1,86 @@
+//! Boards at the limits of P and L, and past them, all buffers as long as the numbers say: at a limit every call must be done,
+//! past it every call must be refused by 1; by every route, on fresh boards and on wild ones. What was reached is counted as
+//! for all other runs. The limit of F is tried in `largest.rs`.
+
+use crate::coverage::{Coverage, EDGES};
+use crate::limits::*;
+use crate::pairs::Failure;
+use crate::plant::Plant;
+use crate::rng::Rng;
+use crate::routes::{Manner, ROUTES};
+use crate::trace::{Deed, Start, Step};
+use crate::{gen, stepped};
+use model::{Board, Call, Shape, NO_TAG};
+
+const FRAMES: u64 = 4;
+
+/// The last page, in the last frame, by the last process and slot: with the most lines, the page's last line has the last place.
+const PAGE: u64 = PAGE_LAST;
+const FRAME: u64 = FRAMES - 1;
+const NAME: u64 = PAGE * LINES_PER_PAGE + LINES_PER_PAGE - 1;
+const LINE: u64 = FRAME * LINES_PER_PAGE + LINES_PER_PAGE - 1;
+const SLOT: u64 = SLOTS - 1;
+const ADDRESS: u32 = USER_END - 4;
+const GLOBAL: u64 = PAGE * PAGE_BYTES + PAGE_BYTES - 4;
+
+/// Every call and look, in an order in which all are done where the numbers are taken. `FRAME` has to be free, and `PAGE`
+/// mapped nowhere.
+fn deeds(board: &Board) -> Vec<Deed> {
+    let process = board.shape.processes - 1;
+    let user = |store, value| Call::UserAccess { process, store, width: 4, address: ADDRESS, value };
+    let supervisor = |store, value| Call::SupervisorAccess { store, width: 2, global: GLOBAL, value };
+    let calls = [
+        Call::FlushAll,
+        Call::Map { page: PAGE, frame: FRAME, write: true },
+        Call::Attach { process, slot: SLOT, segment: SEGMENT_LAST, write: true },
+        user(true, 0x0102_0304),
+        user(false, 0),
+        supervisor(true, 0x0506),
+        supervisor(false, 0),
+        Call::Protect { page: PAGE, write: false },
+        Call::Tag { name: NAME },
+        Call::LoadAndMap { line: LINE },
+        Call::Tag { name: NAME - 1 },
+        Call::LoadAndMap { line: LINE - 1 },
+        Call::Tag { name: NAME },
+        Call::DropTag,
+    ];
+    let ends = [Call::Unmap { page: PAGE }, Call::Detach { process, slot: SLOT }, Call::FlushAll];
+    let first = board.tag.0.then_some(Call::DropTag);
+    let looks = [Deed::Look { line: LINE }, Deed::LookNumber { line: LINE }, Deed::Audit];
+    let calls = first.into_iter().chain(calls).map(Deed::Call);
+    calls.chain(looks).chain(ends.map(Deed::Call)).chain([Deed::Audit]).collect()
+}
+
+fn start(rng: &mut Rng, shape: Shape, fresh: bool) -> Start {
+    if fresh {
+        let mut start = gen::fresh(rng, shape);
+        start.board.tag = NO_TAG;
+        return start;
+    }
+    let (mut board, _) = gen::wild_board(rng, shape);
+    board.words.iter_mut().filter(|word| **word / 4 == PAGE).for_each(|word| *word = 0);
+    board.words[FRAME as usize] = 0;
+    board.tag = (true, board.records[0]);
+    Start { fresh: false, board, offsets: gen::offsets(rng) }
+}
+
+pub fn edges(rng: &mut Rng, plant: Option<Plant>, coverage: &mut Coverage) -> Result<(), Failure> {
+    for (index, edge) in EDGES.iter().enumerate() {
+        let shape = Shape { frames: FRAMES, uncached: 1, processes: edge.processes, lines: edge.lines };
+        coverage.edge = Some(index);
+        for fresh in edge.boards() {
+            for (route, _) in ROUTES {
+                let start = start(rng, shape, *fresh);
+                let deeds = deeds(&start.board);
+                let step = |index: usize, _: &Board| Step {
+                    deed: deeds[index],
+                    manner: Manner { route, yes: 1, null: false },
+                };
+                stepped(start, deeds.len(), plant, coverage, step)?;
+            }
+        }
+    }
+    coverage.edge = None;
+    Ok(())
+}
