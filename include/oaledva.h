@@ -76,8 +76,8 @@ extern "C" {
  * The shape is four numbers: frames F, uncached frames U (0 to F), processes P and lines L (a power of two). F, P and L are
  * from 1 to these. */
 #define OALEDVA_FRAMES_MAX 1048576
-#define OALEDVA_PROCESSES_MAX 16
-#define OALEDVA_LINES_MAX 32768
+#define OALEDVA_PROCESSES_MAX 64
+#define OALEDVA_LINES_MAX 65536
 
 /* A number as a size_t, without a cast. */
 #define OALEDVA_SIZE(n) (sizeof(char) * (n))

@@ -27,9 +27,9 @@ impl Shape {
     /// The most frames.
     pub const FRAMES_MAX: usize = 1_048_576;
     /// The most processes.
-    pub const PROCESSES_MAX: usize = 16;
+    pub const PROCESSES_MAX: usize = 64;
     /// The most lines.
-    pub const LINES_MAX: usize = 32_768;
+    pub const LINES_MAX: usize = 65_536;
 
     /// Whether the four numbers keep the limits. A board of another shape answers [`Refusal::Shape`] to every call.
     pub fn keeps_limits(&self) -> bool {

@@ -66,8 +66,8 @@ pub fn shape(rng: &mut Rng) -> Shape {
     let uncached = if rng.percent(90) { rng.below(frames).min(rng.below(frames)) } else { rng.below(frames + 1) };
     let processes = if rng.percent(2) { PROCESSES_MAX } else { 1 + rng.below(3) };
     let lines = match rng.below(1000) {
-        0..=7 => LINES_MAX,
-        8..=29 => rng.pick(&[256, 512]),
+        0..=3 => LINES_MAX,
+        4..=29 => rng.pick(&[256, 512]),
         _ => 1 << rng.below(5),
     };
     Shape { frames, uncached, processes, lines }

@@ -8,8 +8,8 @@ pub const SEGMENT_SPAN: u64 = 1 << 22;
 pub const SLOTS: u64 = 512;
 
 pub const FRAMES_MAX: u64 = 1_048_576;
-pub const PROCESSES_MAX: u64 = 16;
-pub const LINES_MAX: u64 = 32_768;
+pub const PROCESSES_MAX: u64 = 64;
+pub const LINES_MAX: u64 = 65_536;
 
 pub const SEGMENT_FIRST: u64 = 2048;
 pub const SEGMENT_LAST: u64 = 4_190_207;

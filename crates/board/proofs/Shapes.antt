@@ -28,6 +28,7 @@ pub record Limited (s : Shape) : Type 0 where
   pub frames-low : 1 ≤ s .frames
   pub frames-max : s .frames ≤ maxFrames
   pub uncached-max : s .uncached ≤ s .frames
+  pub processes-low : 1 ≤ s .processes
   pub processes-max : s .processes ≤ maxProcesses
   pub lines-max : s .lines ≤ maxLines
   pub one : ones (s .lines) ≡ 1
@@ -43,6 +44,7 @@ limited s a₁ =
       frames-low = leb-true _ _ (and-left (leb 1 (s .frames)) _ a₁);
       frames-max = leb-true _ _ (and-left (leb (s .frames) maxFrames) _ a₂);
       uncached-max = leb-true _ _ (and-left (leb (s .uncached) (s .frames)) _ a₃);
+      processes-low = leb-true _ _ (and-left (leb 1 (s .processes)) _ a₄);
       processes-max = leb-true _ _ (and-left (leb (s .processes) maxProcesses) _ a₅);
       lines-max = leb-true _ _ (and-left (leb (s .lines) maxLines) _ a₆);
       one = eqb-true _ _ (and-right (leb (s .lines) maxLines) _ a₆);

@@ -11,10 +11,10 @@ abbrev pub maxFrames : ℕ
 maxFrames = 1048576
 
 abbrev pub maxProcesses : ℕ
-maxProcesses = 16
+maxProcesses = 64
 
 abbrev pub maxLines : ℕ
-maxLines = 32768
+maxLines = 65536
 
 -- the 64-bit words of a line's record
 abbrev pub recordWords : ℕ

@@ -52,9 +52,9 @@ pub enum Home {
 // The most frames, processes and lines.
 pub const MAX_FRAMES: usize = 1048576;
 
-pub const MAX_PROCESSES: usize = 16;
+pub const MAX_PROCESSES: usize = 64;
 
-pub const MAX_LINES: usize = 32768;
+pub const MAX_LINES: usize = 65536;
 
 pub const PROCESS_SLOTS: usize = 512;
 

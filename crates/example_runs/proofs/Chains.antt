@@ -1,5 +1,5 @@
 -- A run, call by call: its answers, its replies, the board after it, and what its slots pass at some moment of it.
-use Prim.Native.Nat.{ℕ, zero, suc, _<_}
+use Prim.Native.Nat.{ℕ, zero, suc, _+_, _*_, _<_}
 use mathlib.Core.Logic.{_≢_}
 use mathlib.Core.Path.{_≡_, refl}
 use mathlib.Core.Bool.{Bool, true, false, _||_, cond}
@@ -12,12 +12,20 @@ use borrow.Author.Tests.{eqb-true, eqb-false, ltb-true, ltb-false}
 use Rattle.board.specs.declared.Shape.{Shape}
 use Rattle.board.specs.declared.Answer.{Answer}
 use Rattle.board.proofs.Bools.{or-left, or-right, or-false}
+use Rattle.board.specs.Shapes.{recordWords}
 use Rattle.slots.specs.Slots.{slotIndex}
+use Rattle.lines.specs.Records.{lineAt, noLine}
 use Rattle.machine.specs.Boards.{Board, outcome}
 use Rattle.store_laws.proofs.Zeroed.{zeros-at}
 use Rattle.promises.specs.Runs.{Call, user, supervisor, step, after, Reply, reply, replies}
 use Rattle.promises.specs.Demand3.{someSlot, atSomeMoment, repliesTo}
 use Rattle.example_runs.specs.Examples.{answers}
+
+-- ---- a fresh board's records
+
+pub fresh-line : (count i : ℕ) → lineAt (replicate count 0) i ≡ noLine
+unfolding lineAt
+fresh-line count i = rw (zeros-at count (recordWords * i), zeros-at count (recordWords * i + 1))
 
 -- ---- calls, one after the other
 

@@ -1,5 +1,5 @@
 -- Copies of one physical line: none with 256 lines or fewer; with 512 lines a board with two, and a run in which map keeps it to one.
-use Prim.Native.Nat.{ℕ, _+_, _*_, _-_, _%_, _^_, _≤_, _<_, _∣_}
+use Prim.Native.Nat.{ℕ, _+_, _-_, _%_, _^_, _≤_, _<_, _∣_}
 use mathlib.Core.Logic.{_≢_}
 use mathlib.Core.Path.{_≡_, refl, sym, ap, _∙_}
 use mathlib.Core.Bool.{Bool, true, false}
@@ -37,7 +37,7 @@ use Rattle.machine.specs.Calls as calls
 use Rattle.machine.specs.Calls.{mapPage, mapped}
 use Rattle.store_laws.proofs.Bytes.{copied-at}
 use Rattle.store_laws.proofs.Held.{holds-none, held-place, held-line}
-use Rattle.store_laws.proofs.Zeroed.{zeros-at, length-zeroed, zeroed-in}
+use Rattle.store_laws.proofs.Zeroed.{length-zeroed, zeroed-in}
 use Rattle.store_laws.proofs.Sweeps.{fateOf, fate, SameCache, swept-cache, swept-line}
 use Rattle.page_laws.proofs.Maps.{Homed, direct, mapped as byMap, homed}
 use Rattle.promises.specs.Sound.{LinesOnce}
@@ -46,7 +46,7 @@ use Rattle.promises.proofs.Soundness.{fresh-zeros}
 use Rattle.promises.proofs.Demand3.{demand3}
 use Rattle.example_runs.specs.Examples.{load}
 use Rattle.example_runs.specs.Copies.{LinesInStep, MappedInStep, FewLinesOnce, shape, directLine, pageLine, memory, twice, TwoCopies, start, directStore, used, handed, undropped, OneCopyKept}
-use Rattle.example_runs.proofs.Chains.{Does, Ran, ended, _then_, ran-answers, ran-after}
+use Rattle.example_runs.proofs.Chains.{fresh-line, Does, Ran, ended, _then_, ran-answers, ran-after}
 
 -- ---- 256 lines or fewer
 
@@ -95,10 +95,6 @@ module _ (x : Store) (first : lineAt (x .records) 0 ≡ directLine) (second : li
 abbrev none : List ℕ
 none = replicate 1024 0
 
-none-at : (i : ℕ) → lineAt none i ≡ noLine
-unfolding lineAt
-none-at i = rw (zeros-at 1024 (2 * i), zeros-at 1024 (2 * i + 1))
-
 length-none : length none ≡ 1024
 length-none = length-replicate {A = ℕ} 1024 0
 
@@ -122,7 +118,7 @@ both-second : lineAt both 256 ≡ pageLine
 both-second = line-put-same one 256 pageLine (omega (arith, length-one))
 
 both-other : (i : ℕ) → 0 ≢ i → 256 ≢ i → lineAt both i ≡ noLine
-both-other i a b = line-put-other one 256 pageLine i b ∙ line-put-other none 0 directLine i a ∙ none-at i
+both-other i a b = line-put-other one 256 pageLine i b ∙ line-put-other none 0 directLine i a ∙ fresh-line 1024 i
 
 both-in-step : LinesInStep shape (store both (zeros 8192) memory)
 both-in-step i h = go (eqb 0 i) refl (eqb 256 i) refl
@@ -197,7 +193,7 @@ cache1-is = length-stored _ 0 4 50 ∙ length-line (zeros 8192) 0 (lineOf memory
 
 -- after the map record 0 is dropped, and record 256 is as it was
 one-second : lineAt one 256 ≡ noLine
-one-second = line-put-other none 0 directLine 256 (omega arith) ∙ none-at 256
+one-second = line-put-other none 0 directLine 256 (omega arith) ∙ fresh-line 1024 256
 
 abbrev sweptOne : Store
 sweptOne = swept one cache1 memory

@@ -13,13 +13,13 @@ use stores::Access;
 use user_access::user_access;
 
 // The most lines that are taken, and the next count with one bit set; the most processes, and one more.
-const MOST_LINES: usize = 32768;
+const MOST_LINES: usize = 65536;
 
-const OVER_LINES: usize = 65536;
+const OVER_LINES: usize = 131072;
 
-const MOST_PROCESSES: usize = 16;
+const MOST_PROCESSES: usize = 64;
 
-const OVER_PROCESSES: usize = 17;
+const OVER_PROCESSES: usize = 65;
 
 // A number, as a line's end.
 fn write_end(number: u32) {

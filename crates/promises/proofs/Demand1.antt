@@ -49,7 +49,7 @@ unfolding appliesIn
 row-later r rows n e = or-right (r .applies && eqb (r .number) n) (appliesIn rows n) e
 
 -- a number that applies is not below the first
-rising-from : (rows : List Row) (from k : ℕ) → rising from rows ≡ true → appliesIn rows k ≡ true → from ≤ k
+pub rising-from : (rows : List Row) (from k : ℕ) → rising from rows ≡ true → appliesIn rows k ≡ true → from ≤ k
 unfolding rising appliesIn
 rising-from [] from k h e = clash false e refl
 rising-from (r ∷ rows) from k h e =

@@ -21,3 +21,4 @@ pub mod Demand3
 pub mod Brought
 -- what a change request promises beside them
 pub mod Entries
+pub mod Limits

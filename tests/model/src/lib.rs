@@ -28,10 +28,9 @@ pub const PAGE_FIRST: u64 = 0x20_0000;
 pub const PAGE_LAST: u64 = 0xFFBF_FFFF;
 /// "F frames of 4096 bytes, 1 to 1,048,576."
 pub const FRAMES_MAX: u64 = 1_048_576;
-/// "P processes, 1 to 16"
-pub const PROCESSES_MAX: u64 = 16;
-/// "L lines of 16 bytes, L from 1 to 32,768"
-pub const LINES_MAX: u64 = 32_768;
+/// CR 7: "L goes to 65,536 and P to 64."
+pub const PROCESSES_MAX: u64 = 64;
+pub const LINES_MAX: u64 = 65_536;
 
 // ---------------------------------------------------------------------------------------------
 // Addresses

@@ -103,7 +103,9 @@ fn width_4_at_2() {
 
 #[test]
 fn line_counts() {
-    for (lines, number) in [(0, 1), (1, 0), (2, 0), (3, 1), (6, 1), (16_384, 0), (32_768, 0), (32_769, 1), (65_536, 1)]
+    // "01's case L = 65,536 becomes taken and 131,072 gives 1."
+    for (lines, number) in
+        [(0, 1), (1, 0), (2, 0), (3, 1), (6, 1), (32_768, 0), (65_535, 1), (65_536, 0), (65_537, 1), (131_072, 1)]
     {
         let mut b = Board::fresh(shape(2, 1, 1, lines));
         assert_eq!(b.look(0).0, number, "{lines}");
@@ -135,11 +137,11 @@ fn limits_alone() {
     for (uncached, ok) in [(0, true), (4, true), (5, false), (u64::MAX, false)] {
         assert_eq!(limits_hold(&Shape { uncached, ..good }), ok, "U {uncached}");
     }
-    for (processes, ok) in [(0, false), (1, true), (16, true), (17, false), (u64::MAX, false)] {
+    for (processes, ok) in [(0, false), (1, true), (17, true), (64, true), (65, false), (u64::MAX, false)] {
         assert_eq!(limits_hold(&Shape { processes, ..good }), ok, "P {processes}");
     }
-    for lines in 0..70_000u64 {
-        let ok = lines <= 32_768 && lines.is_power_of_two();
+    for lines in 0..140_000u64 {
+        let ok = lines <= 65_536 && lines.is_power_of_two();
         assert_eq!(limits_hold(&Shape { lines, ..good }), ok, "L {lines}");
     }
     for lines in [u64::MAX, 1 << 63, 1 << 32] {

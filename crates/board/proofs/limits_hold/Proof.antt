@@ -1,0 +1,7 @@
+-- `limits_hold` asks what the definition asks, limit by limit.
+use mathlib.Core.Path.{refl}
+use Rattle.board.proofs.limits_hold.Statement.{statement}
+use Rattle.board.proofs.limits_hold.Tie as tie
+
+pub limits-hold-spec : {M : Type 1} → statement M
+limits-hold-spec = tie.close (tie.spec (λ c. refl))
