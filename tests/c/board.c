@@ -187,7 +187,7 @@ static void limits(void) {
     }
     EXPECT(oaledva_board_bytes(4, 1, 2, 2) == 8 * (4 + 4) + 4 * 1024 + 16 * 2 + 4096 * 4);
     EXPECT(oaledva_board_bytes(OALEDVA_FRAMES_MAX, 0, P_MAX, L_MAX)
-           == 8 * (OALEDVA_FRAMES_MAX + 2 * L_MAX) + 4 * 512 * P_MAX + 16 * L_MAX + ((uint64_t)1 << 32));
+           == 8 * (OALEDVA_FRAMES_MAX + 2 * L_MAX) + 4 * 512 * P_MAX + 16 * L_MAX + (uint64_t)4096 * OALEDVA_FRAMES_MAX);
     EXPECT(oaledva_board_bytes(OALEDVA_FRAMES_MAX + 1, 0, 1, 1) == 0 && oaledva_board_bytes(SIZE_MAX, SIZE_MAX, 1, 1) == 0);
     EXPECT(oaledva_board_bytes(1, SIZE_MAX, 1, 1) == 0 && oaledva_board_bytes(1, 0, SIZE_MAX, SIZE_MAX) == 0);
 }

@@ -69,17 +69,6 @@ pub const EDGES: [Edge; 4] = [
     Edge { words: "refused by 1 for twice the most lines", processes: 2, lines: 2 * LINES_MAX, number: 1 },
 ];
 
-impl Edge {
-    /// Whether such a board may be fresh; it may always be wild. Number 1 cannot come on a fresh one.
-    pub fn boards(&self) -> &'static [bool] {
-        if self.number == 0 {
-            &[true, false]
-        } else {
-            &[false]
-        }
-    }
-}
-
 /// Whether this call may give this number.
 pub fn in_table(deed: &Deed, number: u32) -> bool {
     row_of(deed).map_or(true, |row| KINDS[row].1.contains(&number))
@@ -109,7 +98,8 @@ pub struct Coverage {
     wild: Counts,
     routes: [[u64; KINDS.len()]; ROUTES.len()],
     pub boards: u64,
-    /// The board of `EDGES` that is being run, if one is.
+    /// The board of `EDGES` that is being run, if one is. Such runs are counted apart: what else must be reached has to be
+    /// reached without them.
     pub edge: Option<usize>,
     /// Audits of boards, and the looks in them.
     pub audits: u64,
@@ -137,12 +127,16 @@ impl Coverage {
 
     pub fn count(&mut self, fresh: bool, deed: &Deed, route: Route, number: u32, cases: &[Case]) {
         let counts = if fresh { &mut self.fresh } else { &mut self.wild };
-        if let Some(row) = row_of(deed) {
-            counts.numbers[row][number as usize] += 1;
-            self.routes[route as usize][row] += 1;
-            if let Some(edge) = self.edge.filter(|&edge| row < ENTRIES && number == EDGES[edge].number) {
+        let row = row_of(deed);
+        if let Some(edge) = self.edge {
+            if let Some(row) = row.filter(|&row| row < ENTRIES && number == EDGES[edge].number) {
                 counts.edges[edge][route as usize][row] += 1;
             }
+            return;
+        }
+        if let Some(row) = row {
+            counts.numbers[row][number as usize] += 1;
+            self.routes[route as usize][row] += 1;
         }
         for &case in cases {
             counts.cases[case as usize] += 1;
@@ -151,6 +145,14 @@ impl Coverage {
             if let Some(end) = ENTRY_PAGES.iter().position(|end| end == page) {
                 counts.entries[route as usize][end] += 1;
             }
+        }
+    }
+
+    /// An audit with so many looks.
+    pub fn count_audit(&mut self, looks: u64) {
+        if self.edge.is_none() {
+            self.audits += 1;
+            self.audit_looks += looks;
         }
     }
 
@@ -171,8 +173,9 @@ impl Coverage {
         self.count_of_rows(ENTRIES..KINDS.len())
     }
 
-    /// Everything that must be reached, in words, with its count. Number 1 cannot come on a fresh board: there numbers and
-    /// lengths agree. All else that a sequence of calls from a fresh board reaches must be reached on one.
+    /// Everything that must be reached, in words, with its count. But for the boards past a limit, number 1 cannot come on a
+    /// fresh board: there numbers and lengths agree. All else that a sequence of calls from a fresh board reaches must be
+    /// reached on one.
     pub fn required(&mut self) -> Vec<(String, &mut u64)> {
         let mut cells = Vec::new();
         for (counts, board) in [(&mut self.fresh, "fresh"), (&mut self.wild, "wild")] {
@@ -194,13 +197,10 @@ impl Coverage {
                     cells.push((words, count));
                 }
             }
-            for (counts, edge) in counts.edges.iter_mut().zip(&EDGES) {
-                if edge.boards().contains(&(board == "fresh")) {
-                    for (counts, (_, route)) in counts.iter_mut().zip(&ROUTES) {
-                        for (count, (call, _)) in counts.iter_mut().zip(&KINDS) {
-                            let words = edge.words;
-                            cells.push((format!("{call}, {words}, by the {route} route, on a {board} board"), count));
-                        }
+            for (counts, Edge { words, .. }) in counts.edges.iter_mut().zip(&EDGES) {
+                for (counts, (_, route)) in counts.iter_mut().zip(&ROUTES) {
+                    for (count, (call, _)) in counts.iter_mut().zip(&KINDS) {
+                        cells.push((format!("{call}, {words}, by the {route} route, on a {board} board"), count));
                     }
                 }
             }

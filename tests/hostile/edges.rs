@@ -1,6 +1,6 @@
 //! Boards at the limits of P and L, and past them, all buffers as long as the numbers say: at a limit every call must be done,
-//! past it every call must be refused by 1; by every route, on fresh boards and on wild ones. What was reached is counted as
-//! for all other runs. The limit of F is tried in `largest.rs`.
+//! past it every call must be refused by 1; by every route, on fresh boards and on wild ones. What was reached is counted
+//! apart from all other runs. The limit of F is tried in `largest.rs`.
 
 use crate::coverage::{Coverage, EDGES};
 use crate::limits::*;
@@ -52,6 +52,8 @@ fn deeds(board: &Board) -> Vec<Deed> {
     calls.chain(looks).chain(ends.map(Deed::Call)).chain([Deed::Audit]).collect()
 }
 
+/// A board on which the deeds can be done. On the wild one a tag is pending, whatever its name. On neither is a name left over
+/// where none is pending, which the safe route couldn't carry.
 fn start(rng: &mut Rng, shape: Shape, fresh: bool) -> Start {
     if fresh {
         let mut start = gen::fresh(rng, shape);
@@ -65,22 +67,20 @@ fn start(rng: &mut Rng, shape: Shape, fresh: bool) -> Start {
     Start { fresh: false, board, offsets: gen::offsets(rng) }
 }
 
-pub fn edges(rng: &mut Rng, plant: Option<Plant>, coverage: &mut Coverage) -> Result<(), Failure> {
+/// Gives how many boards were run.
+pub fn edges(rng: &mut Rng, plant: Option<Plant>, coverage: &mut Coverage) -> Result<usize, Failure> {
+    let mut boards = 0;
     for (index, edge) in EDGES.iter().enumerate() {
         let shape = Shape { frames: FRAMES, uncached: 1, processes: edge.processes, lines: edge.lines };
         coverage.edge = Some(index);
-        for fresh in edge.boards() {
-            for (route, _) in ROUTES {
-                let start = start(rng, shape, *fresh);
-                let deeds = deeds(&start.board);
-                let step = |index: usize, _: &Board| Step {
-                    deed: deeds[index],
-                    manner: Manner { route, yes: 1, null: false },
-                };
-                stepped(start, deeds.len(), plant, coverage, step)?;
-            }
+        for (fresh, (route, _)) in [true, false].into_iter().flat_map(|fresh| ROUTES.map(|route| (fresh, route))) {
+            let start = start(rng, shape, fresh);
+            let deeds = deeds(&start.board);
+            let manner = Manner { route, yes: 1, null: false };
+            stepped(start, deeds.len(), plant, coverage, |index, _| Step { deed: deeds[index], manner })?;
+            boards += 1;
         }
     }
     coverage.edge = None;
-    Ok(())
+    Ok(boards)
 }

@@ -1,4 +1,5 @@
-//! 01's numbers, written out again: the boundaries that the test tries must not move with a mistake in the model.
+//! 01's numbers, with P and L by CR 7, written out again: the boundaries that the test tries must not move with a mistake in
+//! the model.
 
 pub const PAGE_BYTES: u64 = 4096;
 pub const LINE_BYTES: u64 = 16;

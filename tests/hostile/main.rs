@@ -125,6 +125,7 @@ pub fn search(rng: &mut Rng, calls: u64, plant: Option<Plant>, coverage: &mut Co
             gen::wild(rng)
         };
         board(rng, start, &world, plant, coverage)?;
+        coverage.boards += 1;
         if coverage.boards % BOARDS_PER_PAIR == 0 {
             pairs::pair(rng, coverage, false)?;
         }
@@ -174,7 +175,6 @@ pub fn stepped(
             return Err(Failure::Run(Box::new(trace), difference));
         }
     }
-    coverage.boards += 1;
     Ok(())
 }
 
@@ -186,15 +186,16 @@ fn search_and_report(options: &Options) -> Result<(), String> {
     let mut rng = Rng::new(options.seed);
     let outcome = search(&mut rng, options.calls, options.plant, &mut coverage)
         .and_then(|()| edges::edges(&mut rng, options.plant, &mut coverage));
-    match outcome {
-        Ok(()) => {}
+    let edges = match outcome {
+        Ok(boards) => boards,
         Err(Failure::Run(trace, difference)) => return Err(report(run::first_difference, *trace, difference)?),
         Err(Failure::Apart(traces, text)) => return Err(report_pair(&traces, &text)?),
-    }
+    };
     println!("{}", coverage.table());
     let Coverage { audits, audit_looks, pairs, pairs_apart, boards, .. } = coverage;
     println!("{} entries of pages", coverage.entries());
     println!("{} looks by themselves; {audits} audits of a fresh board with {audit_looks} looks", coverage.looks());
+    println!("{edges} boards at the limits of P and L and past them, every call on each");
     println!("{pairs} pairs of runs, equal for process 0; in {pairs_apart} of them a hit mark differs");
     let problems = coverage.problems();
     if !problems.is_empty() {

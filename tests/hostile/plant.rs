@@ -12,6 +12,7 @@ pub enum Plant {
     Value,
     Mark,
     OffTable,
+    Unfit,
     Slots,
     Words,
     Records,
@@ -35,11 +36,12 @@ pub enum Plant {
     Hang,
 }
 
-pub const PLANTS: [(Plant, &str); 25] = [
+pub const PLANTS: [(Plant, &str); 26] = [
     (Plant::Number, "number"),
     (Plant::Value, "value"),
     (Plant::Mark, "mark"),
     (Plant::OffTable, "off-table"),
+    (Plant::Unfit, "unfit"),
     (Plant::Slots, "slots"),
     (Plant::Words, "words"),
     (Plant::Records, "records"),
@@ -74,7 +76,7 @@ impl Plant {
     /// The check that has to find it.
     pub fn found_as(self) -> Kind {
         match self {
-            Plant::Number => Kind::Number,
+            Plant::Number | Plant::Unfit => Kind::Number,
             Plant::Value => Kind::Value,
             Plant::Mark => Kind::Mark,
             Plant::OffTable => Kind::Table,
@@ -105,6 +107,7 @@ impl Plant {
             (Plant::Value, Event::Hit) if answer.value != 0 => answer.value ^= 0x100,
             (Plant::Mark, Event::MissWriteBack) => answer.mark = 1,
             (Plant::OffTable, Event::Refused(7)) => (answer.number, expected.number) = (11, 11),
+            (Plant::Unfit, Event::Refused(1)) => answer.number = 0,
             (Plant::Slots, Event::Done) if matches!(call, Call::Detach { .. }) => flip_last(&mut real.slots),
             (Plant::Words, Event::Protected { lines: 1.. }) => flip_last(&mut real.words),
             (Plant::Records, Event::Unmapped { dropped: 1.., .. }) => flip_last(&mut real.records),

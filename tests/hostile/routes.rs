@@ -166,7 +166,7 @@ extern "C" {
     fn through_entry_of_page(page: u64) -> CEntry;
 }
 
-/// The refusal numbers by the names of the Rust crate, from 1 to 13, then the limits, by 01.
+/// The refusal numbers by the names of the Rust crate, from 1 to 13, then the limits, by the documents.
 fn constants() -> [usize; 17] {
     let refusals = [
         Refusal::Shape,
@@ -201,7 +201,7 @@ pub fn header_disagrees() -> Option<String> {
     unsafe { through_constants(&mut theirs) };
     let ours = constants();
     if theirs != ours {
-        return Some(format!("the header's refusal numbers and limits are {theirs:?}, 01's {ours:?}"));
+        return Some(format!("the header's refusal numbers and limits are {theirs:?}, the documents' {ours:?}"));
     }
     let fresh = model::Board::fresh(Shape { frames: 3, uncached: 1, processes: 2, lines: 8 }).lengths();
     let ours = [fresh.slots, fresh.words, fresh.records, fresh.cache, fresh.memory].map(|length| length as usize);

@@ -29,8 +29,8 @@ pub fn all() -> Result<(), String> {
     println!("planted fault hang          ended by a signal");
     planted_pair()?;
     println!("planted fault in a pair of runs found");
-    planted_edge()?;
-    println!("planted fault on a board at a limit found");
+    planted_edges()?;
+    println!("planted faults on a board at a limit and on one past it found");
     canaries()?;
     println!("each canary, changed, is named");
     let required = unreached()?;
@@ -103,12 +103,15 @@ fn planted_pair() -> Result<(), String> {
     }
 }
 
-fn planted_edge() -> Result<(), String> {
-    let plant = Plant::Slots;
-    match edges::edges(&mut Rng::new(7), Some(plant), &mut Coverage::new()) {
-        Err(Failure::Run(_, difference)) if difference.kind == plant.found_as() => Ok(()),
-        _ => Err("planted fault on a board at a limit: not found".into()),
+/// A fault at the limits, and one past them.
+fn planted_edges() -> Result<(), String> {
+    for plant in [Plant::Slots, Plant::Unfit] {
+        match edges::edges(&mut Rng::new(7), Some(plant), &mut Coverage::new()) {
+            Err(Failure::Run(_, difference)) if difference.kind == plant.found_as() => {}
+            _ => return Err(format!("planted fault {plant:?} on a board at a limit or past it: not found")),
+        }
     }
+    Ok(())
 }
 
 /// Each canary that is changed must be named alone: those of the buffers, those of the tag, the C board's.

@@ -6,7 +6,7 @@ use lib.Count.{ones}
 use Rattle.address.specs.Layout.{pageBytes, lineBytes, processSlots}
 use Rattle.board.specs.declared.Shape.{Shape}
 
--- the most frames, processes and lines
+-- the most frames (01), processes and lines (CR 7)
 abbrev pub maxFrames : ℕ
 maxFrames = 1048576
 

@@ -49,7 +49,7 @@ pub enum Home {
     Nowhere,
 }
 
-// The most frames, processes and lines.
+// The most frames (01), processes and lines (CR 7).
 pub const MAX_FRAMES: usize = 1048576;
 
 pub const MAX_PROCESSES: usize = 64;

@@ -1,5 +1,5 @@
 // Runs the numbers of 01's "Numbers to check" that are to be run, the counts of lines and processes by CR 7, and writes the answers.
-ghost use Prim.Native.Nat.{_≤_};
+ghost use Prim.Native.Nat.{_≤_, _<_, _^_};
 use address::Effective;
 use board::LINE_BYTES;
 use board::PAGE_BYTES;
@@ -12,7 +12,8 @@ use slot_calls::attach;
 use stores::Access;
 use user_access::user_access;
 
-// The most lines that are taken, and the next count with one bit set; the most processes, and one more.
+// CR 7's numbers, by their values, which this program is there to show: the most lines, and the next count with one bit set; the most
+// processes, and one more.
 const MOST_LINES: usize = 65536;
 
 const OVER_LINES: usize = 131072;
@@ -76,7 +77,7 @@ fn misaligned() -> u32 {
     a.number
 }
 
-// An attach for the last process of a fresh board.
+// An attach for the last process of a board with one frame.
 fn attached(processes: usize, lines: usize, slots: &mut [u32], records: &[u64], cache: &[u8]) -> u32
     requires { ⌜ 1 ≤ processes ⌝ }
 {
@@ -97,64 +98,62 @@ fn attached(processes: usize, lines: usize, slots: &mut [u32], records: &[u64], 
     a.number
 }
 
-// With one process and this many lines. The buffers below are as long as the count says, so it is the count that is refused.
-fn with_lines(lines: usize, records: &[u64], cache: &[u8]) {
-    let mut slots: [u32; PROCESS_SLOTS] = [0; PROCESS_SLOTS];
-    let number = attached(1, lines, &mut slots, records, cache);
-    write_count(b"L = ", lines, number);
-}
-
-// With one line and this many processes.
-fn with_processes(processes: usize, slots: &mut [u32])
-    requires { ⌜ 1 ≤ processes ⌝ }
+// With one process and this many lines. The call gets as much of the buffers as the count says, so it is the count that is refused.
+fn with_lines(lines: usize, records: &[u64], cache: &[u8])
+    requires { ⌜ lines < 2 ^ 32 ⌝ }
 {
-    let records: [u64; RECORD_WORDS] = [0; RECORD_WORDS];
-    let cache: [u8; LINE_BYTES] = [0; LINE_BYTES];
-    let number = attached(processes, 1, slots, &records, &cache);
-    write_count(b"P = ", processes, number);
+    let r = RECORD_WORDS * lines;
+    let c = LINE_BYTES * lines;
+    if r <= records.len() {
+        if c <= cache.len() {
+            let mut slots: [u32; PROCESS_SLOTS] = [0; PROCESS_SLOTS];
+            let number = attached(1, lines, &mut slots, &records[0..r], &cache[0..c]);
+            write_count(b"L = ", lines, number);
+        }
+    }
 }
 
-fn three_lines() {
-    let records: [u64; RECORD_WORDS * 3] = [0; RECORD_WORDS * 3];
-    let cache: [u8; LINE_BYTES * 3] = [0; LINE_BYTES * 3];
-    with_lines(3, &records, &cache);
+// With one line and this many processes, likewise.
+fn with_processes(processes: usize, slots: &mut [u32])
+    requires { ⌜ (1 ≤ processes) × (processes < 2 ^ 32) ⌝ }
+{
+    let n = PROCESS_SLOTS * processes;
+    if n <= slots.len() {
+        let records: [u64; RECORD_WORDS] = [0; RECORD_WORDS];
+        let cache: [u8; LINE_BYTES] = [0; LINE_BYTES];
+        let number = attached(processes, 1, &mut slots[0..n], &records, &cache);
+        write_count(b"P = ", processes, number);
+    }
 }
 
-fn no_lines() {
-    let records: [u64; 0] = [0; 0];
-    let cache: [u8; 0] = [0; 0];
-    with_lines(0, &records, &cache);
+fn line_counts(records: &[u64], cache: &[u8]) {
+    with_lines(3, records, cache);
+    with_lines(0, records, cache);
+    with_lines(MOST_LINES, records, cache);
+    with_lines(OVER_LINES, records, cache);
 }
 
-fn most_lines() {
-    let records: [u64; RECORD_WORDS * MOST_LINES] = [0; RECORD_WORDS * MOST_LINES];
-    let cache: [u8; LINE_BYTES * MOST_LINES] = [0; LINE_BYTES * MOST_LINES];
-    with_lines(MOST_LINES, &records, &cache);
+fn process_counts(slots: &mut [u32]) {
+    with_processes(MOST_PROCESSES, slots);
+    with_processes(OVER_PROCESSES, slots);
 }
 
-fn over_lines() {
+// Buffers for the largest counts of lines.
+fn run_lines() {
     let records: [u64; RECORD_WORDS * OVER_LINES] = [0; RECORD_WORDS * OVER_LINES];
     let cache: [u8; LINE_BYTES * OVER_LINES] = [0; LINE_BYTES * OVER_LINES];
-    with_lines(OVER_LINES, &records, &cache);
+    line_counts(&records, &cache);
 }
 
-fn most_processes() {
-    let mut slots: [u32; PROCESS_SLOTS * MOST_PROCESSES] = [0; PROCESS_SLOTS * MOST_PROCESSES];
-    with_processes(MOST_PROCESSES, &mut slots);
-}
-
-fn over_processes() {
+// And of processes.
+fn run_processes() {
     let mut slots: [u32; PROCESS_SLOTS * OVER_PROCESSES] = [0; PROCESS_SLOTS * OVER_PROCESSES];
-    with_processes(OVER_PROCESSES, &mut slots);
+    process_counts(&mut slots);
 }
 
 fn main() {
     io::write_all(STDOUT_FILENO, b"width 4 at address 2: ");
     write_end(misaligned());
-    three_lines();
-    no_lines();
-    most_lines();
-    over_lines();
-    most_processes();
-    over_processes();
+    run_lines();
+    run_processes();
 }

@@ -10,7 +10,7 @@ abbrev Inv-loop : tie.InvT-loop
 Inv-loop slots cache memory₀ row₀ memory row = length memory ≡ length memory₀
 
 abbrev μ-loop : tie.MeasureT-loop
-μ-loop slots cache memory₀ row₀ memory row = 18 - row
+μ-loop slots cache memory₀ row₀ memory row = 19 - row
 
 pub flushes-spec : {M : Type 1} → statement M
 flushes-spec =

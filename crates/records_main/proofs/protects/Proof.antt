@@ -8,7 +8,7 @@ abbrev Inv-loop : tie.InvT-loop
 Inv-loop slots cache memory row₀ row = Unit {0}
 
 abbrev μ-loop : tie.MeasureT-loop
-μ-loop slots cache memory row₀ row = 18 - row
+μ-loop slots cache memory row₀ row = 19 - row
 
 pub protects-spec : {M : Type 1} → statement M
 protects-spec =
