@@ -284,20 +284,25 @@ fn flushes(slots: &[u32], cache: &[u8], memory: &mut [u8]) {
     }
 }
 
+// The rows of both calls.
+fn rows(slots: &[u32], cache: &[u8], memory: &mut [u8]) {
+    io::write_all(
+        STDOUT_FILENO,
+        b"protect: row number value mark, valid name physical changed write of line 0, of line 1, word\n",
+    );
+    protects(slots, cache, memory);
+    io::write_all(
+        STDOUT_FILENO,
+        b"flush all: row number value mark, valid name physical changed write of line 0, of line 1, two bytes\n",
+    );
+    flushes(slots, cache, memory);
+}
+
 // Cache line 0 is all 5, line 1 begins with 9.
 fn main() {
     let slots: [u32; OVER_SLOTS] = [0; OVER_SLOTS];
     let mut cache: [u8; 32] = [5; 32];
     cache[16] = 9;
     let mut memory: [u8; 4096] = [0; 4096];
-    io::write_all(
-        STDOUT_FILENO,
-        b"protect: row number value mark, valid name physical changed write of line 0, of line 1, word\n",
-    );
-    protects(&slots, &cache, &memory);
-    io::write_all(
-        STDOUT_FILENO,
-        b"flush all: row number value mark, valid name physical changed write of line 0, of line 1, two bytes\n",
-    );
-    flushes(&slots, &cache, &mut memory);
+    rows(&slots, &cache, &mut memory);
 }
