@@ -74,7 +74,7 @@ extern "C" {
 
 /* ---- limits and sizes
  * The shape is four numbers: frames F, uncached frames U (0 to F), processes P and lines L (a power of two). F, P and L are
- * from 1 to these. */
+ * from 1 to these. A program has them compiled in: with a later library that takes more, compile it again. */
 #define OALEDVA_FRAMES_MAX 1048576
 #define OALEDVA_PROCESSES_MAX 64
 #define OALEDVA_LINES_MAX 65536

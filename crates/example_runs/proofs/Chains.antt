@@ -15,17 +15,25 @@ use Rattle.board.proofs.Bools.{or-left, or-right, or-false}
 use Rattle.board.specs.Shapes.{recordWords}
 use Rattle.slots.specs.Slots.{slotIndex}
 use Rattle.lines.specs.Records.{lineAt, noLine}
+use Rattle.lines.specs.Holds.{holdsLine, holdsAt}
+use Rattle.stores.specs.Stores.{store, writtenBack}
 use Rattle.machine.specs.Boards.{Board, outcome}
 use Rattle.store_laws.proofs.Zeroed.{zeros-at}
 use Rattle.promises.specs.Runs.{Call, user, supervisor, step, after, Reply, reply, replies}
 use Rattle.promises.specs.Demand3.{someSlot, atSomeMoment, repliesTo}
 use Rattle.example_runs.specs.Examples.{answers}
 
--- ---- a fresh board's records
+-- ---- records that hold nothing
 
+-- those of a fresh board
 pub fresh-line : (count i : ℕ) → lineAt (replicate count 0) i ≡ noLine
 unfolding lineAt
 fresh-line count i = rw (zeros-at count (recordWords * i), zeros-at count (recordWords * i + 1))
+
+-- such a record has nothing to write back
+pub none-written : (s : Shape) (i : ℕ) (r c m : List ℕ) → lineAt r i ≡ noLine → writtenBack 1 s i (store r c m) ≡ store r c m
+unfolding holdsLine holdsAt writtenBack
+none-written s i r c m h = rw h
 
 -- ---- calls, one after the other
 

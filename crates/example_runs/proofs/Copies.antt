@@ -46,7 +46,7 @@ use Rattle.promises.proofs.Soundness.{fresh-zeros}
 use Rattle.promises.proofs.Demand3.{demand3}
 use Rattle.example_runs.specs.Examples.{load}
 use Rattle.example_runs.specs.Copies.{LinesInStep, MappedInStep, FewLinesOnce, shape, directLine, pageLine, memory, twice, TwoCopies, start, directStore, used, handed, undropped, OneCopyKept}
-use Rattle.example_runs.proofs.Chains.{fresh-line, Does, Ran, ended, _then_, ran-answers, ran-after}
+use Rattle.example_runs.proofs.Chains.{fresh-line, none-written, Does, Ran, ended, _then_, ran-answers, ran-after}
 
 -- ---- 256 lines or fewer
 
@@ -177,16 +177,11 @@ module _ (r c m : List ℕ) (records-are : length r ≡ 1024) (cache-is : length
   unfolding number withLine lineOf
   loaded-byte = zero-add _ ∙ copied-at c m 256 0 (omega arith) (omega arith) 3 (omega arith)
 
-  -- record 256 has nothing to write back
-  not-written : lineAt r 256 ≡ noLine → writtenBack 1 shape 256 (store r c m) ≡ store r c m
-  unfolding holdsLine holdsAt writtenBack
-  not-written h = rw h
-
   does-load : lineAt r 256 ≡ noLine
       → Does shape (untagged slots1 (frameWord 0x200001 true) r c m) (load 0 0x1003) (answer 0 (getD m 3 0) 0)
       (untagged slots1 (frameWord 0x200001 true) (putLine r 256 pageLine) (withLine c 256 (lineOf m 0)) m)
   unfolding ones onesIn fitsShape lowestFrom lowestFrame mappedTo homeBy homeOf holdsLine holdsAt holderFrom holderOf filled noted inserted performedAt wayByHome wayBy wayOf unreached mayWrite byTable alignedTo performedOn accessedBy accessed userTable userAccess step
-  does-load h = record { does = rw (records-are, cache-is, memory-is, h, not-written h, loaded-byte) }
+  does-load h = record { does = rw (records-are, cache-is, memory-is, h, none-written shape 256 r c m h, loaded-byte) }
 
 cache1-is : length cache1 ≡ 8192
 cache1-is = length-stored _ 0 4 50 ∙ length-line (zeros 8192) 0 (lineOf memory 0) ∙ length-zeros 8192

@@ -1,5 +1,5 @@
 -- The run on the largest board, call by call. Its lists are too long to be counted: each call is shown of any lists of their lengths.
-use Prim.Native.Nat.{ℕ, _+_, _*_, _-_}
+use Prim.Native.Nat.{ℕ, _+_, _*_}
 use mathlib.Core.Path.{_≡_, refl, ap, _∙_}
 use mathlib.Core.Bool.{true}
 use mathlib.Core.List.{List, [], _∷_}
@@ -19,23 +19,24 @@ use Rattle.lines.specs.Records.{lineAt, putLine, noLine, newLine, changedLine}
 use Rattle.lines.specs.Holds.{holdsLine, holdsAt, holderFrom, holderOf}
 use Rattle.lines.specs.declared.Line.{Line}
 use Rattle.lines.proofs.Records.{length-put, line-put-same}
-use Rattle.stores.specs.Stores.{Store, store, writtenBack, filled, noted, inserted, performedAt}
+use Rattle.lines.proofs.OneBit.{power-one}
+use Rattle.stores.specs.Stores.{Store, store, filled, noted, inserted, performedAt}
 use Rattle.reach.specs.Reach.{wayByHome, wayBy, wayOf, unreached, mayWrite}
 use Rattle.visits.specs.Visits.{visitedAll}
 use Rattle.visits.specs.declared.Visit.the-variants.{Map}
 use Rattle.machine.specs.Boards.{Board, board, noTag}
 use Rattle.machine.specs.Refusals.{byTable, alignedTo, isMapped}
 use Rattle.machine.specs.Accesses.{performedOn, accessedBy, accessed, userTable, userAccess}
-use Rattle.machine.specs.Calls as board
+use Rattle.machine.specs.Calls as calls
 use Rattle.machine.specs.Calls.{mapPage, mapped}
 use Rattle.store_laws.proofs.Bytes.{splice-in}
 use Rattle.store_laws.proofs.Zeroed.{length-zeroed}
 use Rattle.store_laws.proofs.Sweeps.{fate, SameCache, swept-cache, swept-line}
-use Rattle.promises.specs.Runs.{attach, map, supervisor, supervise, step, after}
-use Rattle.promises.proofs.Limits.{power-one, limits-stand}
+use Rattle.promises.specs.Runs.{attach, map, supervisor, supervise, step}
+use Rattle.promises.proofs.Limits.{limits-stand}
 use Rattle.example_runs.specs.Examples.{load, save}
-use Rattle.example_runs.specs.Largest.{shape, placeBits, lastProcess, lastPlace, start, calls, LargestBoard, PastLimits}
-use Rattle.example_runs.proofs.Chains.{fresh-line, Does, Ran, ended, _then_, ran-answers, ran-after}
+use Rattle.example_runs.specs.Largest.{shape, placeBits, lastProcess, lastPlace, start, run, LargestBoard, PastLimits}
+use Rattle.example_runs.proofs.Chains.{fresh-line, none-written, Does, Ran, ended, _then_, ran-answers, ran-after}
 
 one : ones (shape .lines) ≡ 1
 one = power-one placeBits
@@ -80,31 +81,27 @@ module _ (slots r c m : List ℕ) (x : Long slots r c m) where
   does-map = record { does = rw fits }
 
   does-past : Does shape (untagged slots pageWord r c m) (supervisor (attach (shape .processes) 511 2048 true)) (answer 2 0 0) (untagged slots pageWord r c m)
-  unfolding byTable board.attach supervise step
+  unfolding byTable calls.attach supervise step
   does-past = record { does = rw fits }
 
   does-attach : Does shape (untagged slots pageWord r c m) (supervisor (attach lastProcess 511 2048 true)) (answer 0 0 0)
       (untagged (set slots lastSlot segmentWord) pageWord r c m)
-  unfolding byTable board.attach supervise step
+  unfolding byTable calls.attach supervise step
   does-attach = record { does = rw fits }
 
+  -- the line as the store's miss leaves it in the records and the cache
+  abbrev missedRecords : List ℕ
+  missedRecords = putLine r lastPlace missed
+
+  abbrev missedCache : List ℕ
+  missedCache = withLine c lastPlace (lineOf m 255)
+
   module _ (attached : getD slots lastSlot 0 ≡ segmentWord) where
-    -- the record at the last place has nothing to write back
-    not-written : lineAt r lastPlace ≡ noLine → writtenBack 1 shape lastPlace (store r c m) ≡ store r c m
-    unfolding holdsLine holdsAt writtenBack
-    not-written h = rw h
-
-    abbrev missedRecords : List ℕ
-    missedRecords = putLine r lastPlace missed
-
-    abbrev missedCache : List ℕ
-    missedCache = withLine c lastPlace (lineOf m 255)
-
     does-store : lineAt r lastPlace ≡ noLine → lineAt missedRecords lastPlace ≡ missed
         → Does shape (untagged slots pageWord r c m) (save lastProcess 4 0x7FFFFFFC 50) (answer 0 0 0)
         (untagged slots pageWord (putLine missedRecords lastPlace (changedLine missed)) (stored missedCache (lineBytes * lastPlace + 12) 4 50) m)
     unfolding lowestFrom lowestFrame mappedTo homeBy homeOf holdsLine holdsAt holderFrom holderOf filled noted inserted performedAt wayByHome wayBy wayOf unreached mayWrite byTable alignedTo performedOn accessedBy accessed userTable userAccess step
-    does-store h g = record { does = rw (fits, attached, h, not-written h, g) }
+    does-store h g = record { does = rw (fits, attached, h, none-written shape lastPlace r c m h, g) }
 
     does-load : lineAt r lastPlace ≡ changedLine missed
         → Does shape (untagged slots pageWord r c m) (load lastProcess 0x7FFFFFFF) (answer 0 (number c (lineBytes * lastPlace + 15) 1) 1)
@@ -176,10 +173,10 @@ attached1 = getD-set-same slots0 lastSlot segmentWord 0 (omega (arith, long0 .sl
 
 -- after the store
 abbrev records2 : List ℕ
-records2 = putLine (mappedStore .records) lastPlace missed
+records2 = missedRecords slots1 (mappedStore .records) (mappedStore .cache) memory1 long2
 
 abbrev cache2 : List ℕ
-cache2 = withLine (mappedStore .cache) lastPlace (lineOf memory1 255)
+cache2 = missedCache slots1 (mappedStore .records) (mappedStore .cache) memory1 long2
 
 length-records2 : length records2 ≡ recordWords * shape .lines
 length-records2 = length-put (mappedStore .records) lastPlace missed ∙ long1 .records-are
@@ -211,7 +208,7 @@ loaded-byte : number cache3 (lineBytes * lastPlace + 15) 1 ≡ 50
 unfolding number stored digits
 loaded-byte = zero-add _ ∙ splice-in cache2 (lineBytes * lastPlace + 12) (digits 4 50) 3 (lineBytes * lastPlace + 15) refl (omega arith) (omega (arith, length-cache2))
 
-ran : Ran shape start calls (answer 0 0 0 ∷ answer 2 0 0 ∷ answer 0 0 0 ∷ answer 0 0 0 ∷ answer 0 (number cache3 (lineBytes * lastPlace + 15) 1) 1 ∷ [])
+ran : Ran shape start run (answer 0 0 0 ∷ answer 2 0 0 ∷ answer 0 0 0 ∷ answer 0 0 0 ∷ answer 0 (number cache3 (lineBytes * lastPlace + 15) 1) 1 ∷ [])
     (untagged slots1 pageWord records3 cache3 memory1)
 ran =
     does-map slots0 records0 cache0 memory0 long0

@@ -35,8 +35,8 @@ start = fresh shape (zeros (lineBytes * shape .lines)) (zeros pageBytes)
 
 -- page 0x2003FF, the last of segment 2048, is mapped to frame 0; process 64, one past the last, tries to attach the segment; the last process attaches
 -- it to its slot 511, stores 50 in the segment's last four bytes and loads the last byte
-abbrev pub calls : List Call
-calls =
+abbrev pub run : List Call
+run =
     supervisor (map 0x2003FF 0 true) ∷ supervisor (attach (shape .processes) 511 2048 true) ∷ supervisor (attach lastProcess 511 2048 true)
     ∷ save lastProcess 4 0x7FFFFFFC 50 ∷ load lastProcess 0x7FFFFFFF ∷ []
 
@@ -45,9 +45,9 @@ pub record LargestBoard : Type 0 where
   pub within : Within shape placeBits
   pub as-long : AsLong shape start
   -- the attach for the process past the last is refused by 2, all else is done, and the load finds its line held
-  pub answers-are : answers shape start calls ≡ answer 0 0 0 ∷ answer 2 0 0 ∷ answer 0 0 0 ∷ answer 0 0 0 ∷ answer 0 50 1 ∷ []
+  pub answers-are : answers shape start run ≡ answer 0 0 0 ∷ answer 2 0 0 ∷ answer 0 0 0 ∷ answer 0 0 0 ∷ answer 0 50 1 ∷ []
   -- that line, name 0x2003FFFF and physical line 255, has the last place
-  pub last-line : lineAt (after shape start calls .store .records) lastPlace ≡ changedLine (newLine 0x2003FFFF 255 true)
+  pub last-line : lineAt (after shape start run .store .records) lastPlace ≡ changedLine (newLine 0x2003FFFF 255 true)
 
 -- ---- past them
 

@@ -1,11 +1,11 @@
--- A number with one bit set is a power of two: by its trailing zeros.
+-- A number with one bit set is a power of two: by its trailing zeros. And a power of two has one bit set.
 use Prim.Native.Nat.{ℕ, zero, suc, _*_, _/_, _%_, _^_, _<_}
-use mathlib.Core.Path.{_≡_, refl}
+use mathlib.Core.Path.{_≡_, _∙_, refl, sym, ap}
 use mathlib.Core.Logic.{_⊎_, inl, inr, ⊎-elim}
 use native.Mathlib.Omega.{arith}
-use native.Mathlib.Nat.{pow-suc, lt-of-not-le}
+use native.Mathlib.Nat.{pow-suc, lt-of-not-le, add-zero, one-mul}
 use lib.Pow.{pow-mono, pow-pos}
-use lib.Count.{ones, ones-step, ones-le, trailingZeros, under}
+use lib.Count.{ones, onesIn, ones-step, ones-cat, ones-le, trailingZeros, under}
 
 -- a digit is 0 or 1
 digit : (n : ℕ) → (n % 2 ≡ 0) ⊎ (n % 2 ≡ 1)
@@ -49,3 +49,7 @@ one-shl n h e = omega (arith, one-bit 64 n h e)
 -- a number with one bit set is not 0
 pub one-pos : (n : ℕ) → n < 2 ^ 64 → ones n ≡ 1 → 0 < n
 one-pos n h e = omega (arith, one-bit 64 n h e, pow-pos (trailingZeros 64 n))
+
+pub power-one : (k : ℕ) → ones (2 ^ k) ≡ 1
+unfolding ones onesIn
+power-one k = ap ones (sym (add-zero (1 * 2 ^ k) ∙ one-mul (2 ^ k))) ∙ ones-cat k 1 0 (pow-pos k)

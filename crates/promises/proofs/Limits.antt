@@ -1,13 +1,11 @@
 -- The limits as every call gives them. Stands on Demand1 (a number that is given is a row's that applies) and Demand2 (numbers that don't fit are
 -- refused by 1).
-use Prim.Native.Nat.{ℕ, _*_, _^_}
+use Prim.Native.Nat.{ℕ, _*_}
 use mathlib.Core.Path.{_≡_, _∙_, refl, sym, ap}
 use mathlib.Core.Bool.{Bool, true, false, not}
 use mathlib.Core.List.{List, _∷_}
 use native.Mathlib.Omega.{arith}
-use native.Mathlib.Nat.{one-mul, add-zero}
-use lib.Count.{ones, onesIn, ones-cat, trailingZeros}
-use lib.Pow.{pow-pos}
+use lib.Count.{ones, trailingZeros}
 use lib.Dec.{eqb, leb}
 use lib.ListN.{length-replicate}
 use borrow.Author.Tests.{le-leb, eq-eqb}
@@ -16,7 +14,7 @@ use Rattle.board.specs.Shapes.{limitsHold, fitsShape, maxFrames, maxProcesses, 
 use Rattle.board.specs.declared.Shape.{Shape}
 use Rattle.board.proofs.Bools.{clash, and-left, and-right}
 use Rattle.board.proofs.Shapes.{limited}
-use Rattle.lines.proofs.OneBit.{one-bit}
+use Rattle.lines.proofs.OneBit.{one-bit, power-one}
 use Rattle.machine.specs.Boards.{Board, fitsBoard}
 use Rattle.machine.specs.Refusals.{Row, row, row1, byTable}
 use Rattle.machine.specs.Accesses.{userTable, supervisorTable}
@@ -31,12 +29,7 @@ use Rattle.promises.proofs.Demand2.{unfit-call}
 
 -- ---- taken
 
--- a power of two has one bit set
-pub power-one : (k : ℕ) → ones (2 ^ k) ≡ 1
-unfolding ones onesIn
-power-one k = ap ones (sym (add-zero (1 * 2 ^ k) ∙ one-mul (2 ^ k))) ∙ ones-cat k 1 0 (pow-pos k)
-
-pub fits-within : (s : Shape) (k : ℕ) (b : Board) → Within s k → AsLong s b → fitsBoard s b ≡ true
+fits-within : (s : Shape) (k : ℕ) (b : Board) → Within s k → AsLong s b → fitsBoard s b ≡ true
 unfolding fitsShape
 fits-within s k b w long =
     rw (
@@ -58,6 +51,10 @@ one-passed t rows e h = rw e (go (appliesIn rows 1) refl)
     go : (u : Bool) → appliesIn rows 1 ≡ u → u ≡ false
     go true a = absurd (omega (arith, rising-from rows 2 1 (and-right (leb 1 1) _ h) a))
     go false a = refl
+
+-- a number that is given is a row's that applies
+never-one : (rows : List Row) (n : ℕ) → Lowest rows n → appliesIn rows 1 ≡ false → n ≡ 1 → ⊥
+never-one rows n low none e = clash (appliesIn rows 1) (rw e at (low .applies (λ z. omega (arith, e)))) none
 
 module _ (s : Shape) (b : Board) (fits : fitsBoard s b ≡ true) where
   -- row 1, in front of the other rows of a table
@@ -82,18 +79,11 @@ module _ (s : Shape) (b : Board) (fits : fitsBoard s b ≡ true) where
   call-passed (user process a e) = passed _ (tables-rise .user-access s b process a e)
   call-passed (supervisor c) = supervisor-passed c
 
-  -- a number that is given is a row's that applies
-  never-one : (rows : List Row) (n : ℕ) → Lowest rows n → appliesIn rows 1 ≡ false → n ≡ 1 → ⊥
-  never-one rows n low none e = clash (appliesIn rows 1) (rw e at (low .applies (λ z. omega (arith, e)))) none
-
   taken-fits : NotBy1 s b
   taken-fits = record {
     calls = λ c. never-one (rowsOf s b c) _ (demand1 .calls s b c .number-is-lowest) (call-passed c);
     looks = λ line. never-one (lookTable s b line) _ (demand1 .looks s b line .number-is-lowest) (passed _ (tables-rise .look s b line));
   }
-
-eqb-same : (n : ℕ) → eqb n n ≡ true
-eqb-same n = eq-eqb n n refl
 
 -- ---- refused by 1
 
@@ -133,6 +123,11 @@ refused-other s b never = go (fitsBoard s b) refl
     go : (t : Bool) → fitsBoard s b ≡ t → By1 s b
     go true e = absurd (never (lineBits s b e) (within-fits s b e) (long-fits s b e))
     go false e = refused-unfit s b e
+
+-- ---- the statement
+
+eqb-same : (n : ℕ) → eqb n n ≡ true
+eqb-same n = eq-eqb n n refl
 
 pub limits-stand : LimitsStand
 limits-stand = record {
