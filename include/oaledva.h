@@ -108,7 +108,8 @@ extern "C" {
 enum {
     OALEDVA_SHAPE = 1,           /* lengths or F, U, P, L disagree or are out of limits */
     OALEDVA_RANGE = 2,           /* process, slot, segment, frame, physical line, line name, page or global address outside its
-                                    range */
+                                    range; or a store's value does not fit its width: 256 or more at width 1, 65536 or more
+                                    at width 2 */
     OALEDVA_TAG = 3,             /* a tag is pending (user access, supervisor access to an ordinary address, tag), or none is
                                     (load-and-map, drop tag) */
     OALEDVA_ALIGNMENT = 4,       /* width not 1, 2 or 4, or the address no multiple of it */
@@ -211,8 +212,12 @@ OALEDVA_ASSERT(oaledva_pending_layout, sizeof(oaledva_pending) == 16, "oaledva_p
 #define OALEDVA_SHAPE_ARGS size_t frames, size_t uncached, size_t processes, size_t lines
 
 /* ---- accesses
- * A user's load or store: process, kind, width in bytes (1, 2 or 4), effective address, the value to store (its low `width`
- * bytes; a load ignores it). Bytes stand most significant first. The tag goes in by value. Refused by 1 to 9. */
+ * A user's load or store: process, kind, width in bytes (1, 2 or 4), effective address, the value to store. Bytes stand most
+ * significant first. The tag goes in by value. Refused by 1 to 9.
+ * A store whose value does not fit its width is refused by 2, whatever the address is, also where it is no multiple of the
+ * width or a tag is pending. With a width that is not 1, 2 or 4 the value is not asked, and a load ignores it. A value has 32
+ * bits: of a longer number C passes the low 32 only, so that one is not refused for what is cut; of a negative one it makes a
+ * large value, which fits width 4 alone. To store the low byte of a number, pass number & 0xff. */
 OALEDVA_MUST_USE oaledva_answer oaledva_user_access(
     OALEDVA_SHAPE_ARGS,
     const uint32_t *slots, size_t slots_length,
@@ -225,7 +230,7 @@ OALEDVA_MUST_USE oaledva_answer oaledva_user_access(
 
 /* A supervisor's load or store by global address (below 2^44): ordinary; prefix 0, the physical address itself, uncached, in
  * frames below U; or prefix 1, 2^32 + the physical address, cached, in frames from U up whose word is 0. The page's write bit
- * is not asked. Refused by 1 to 4, 8, 10 and 12. */
+ * is not asked. The value is asked as a user's is. Refused by 1 to 4, 8, 10 and 12. */
 OALEDVA_MUST_USE oaledva_answer oaledva_supervisor_access(
     OALEDVA_SHAPE_ARGS,
     const uint32_t *slots, size_t slots_length,
@@ -454,8 +459,8 @@ OALEDVA_MUST_USE static inline oaledva_answer oaledva_board_fresh(
 
 /* ---- the calls on a board, with its own tag. What they do, and by which numbers they are refused, is said above: loads and
  * stores at the accesses, the others at the function of that name without `board`.
- * A user's accesses, by effective address: any from 2^31 up is refused by 5, also one that does not fit 32 bits, as the global
- * address of an ordinary page. */
+ * A user's accesses, by effective address: any from 2^31 up is refused, by 5 or by a lower number that applies; also one that
+ * does not fit 32 bits, as the global address of an ordinary page. */
 static inline uint32_t oaledva_effective(uint64_t address) {
     return (uint32_t)address | (address >> 32 != 0 ? UINT32_C(1) << 31 : 0);
 }

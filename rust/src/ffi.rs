@@ -175,10 +175,10 @@ macro_rules! calls {
 }
 
 calls! {
-    /// A user's load or store.
+    /// A user's load or store. A load ignores the value; a store's has to fit the width.
     fn oaledva_user_access(read slots, read words, write records, write cache, write memory,
         tag: Pending, process: usize, kind: Kind, width: u32, address: u32, value: u32) -> Answer;
-    /// A supervisor's load or store by global address.
+    /// A supervisor's load or store by global address; the value as a user's.
     fn oaledva_supervisor_access(read slots, read words, write records, write cache, write memory,
         tag: Pending, kind: Kind, width: u32, address: u64, value: u32) -> Answer;
     /// Attaches a segment to a slot of a process.

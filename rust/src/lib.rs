@@ -184,7 +184,20 @@ where
         self.user_access(process, Kind::LOAD, width, address, 0)
     }
 
-    /// A user's store of the low `width` bytes of `value`.
+    /// A user's store of a value as `width` bytes (1, 2 or 4), most significant first. A value that does not fit, 256 or more at
+    /// width 1 or 65,536 or more at width 2, is refused by [`Refusal::Range`], whatever the address is, also while a tag is
+    /// pending.
+    ///
+    /// ```
+    /// # use oaledva::{Board, Refusal, Shape};
+    /// # let mut board = Board::new(Shape { frames: 4, uncached: 1, processes: 2, lines: 2 })?;
+    /// # board.map(0x200000, 1, true)?;
+    /// # board.attach(0, 0, 2048, true)?;
+    /// board.store(0, 1, 3, 255)?;
+    /// assert_eq!(board.store(0, 1, 3, 256), Err(Refusal::Range));
+    /// assert_eq!(board.load(0, 1, 3), Ok(255));
+    /// # Ok::<(), Refusal>(())
+    /// ```
     pub fn store(&mut self, process: usize, width: u32, address: u32, value: u32) -> Result<(), Refusal> {
         self.user_access(process, Kind::STORE, width, address, value).map(drop)
     }
@@ -194,7 +207,7 @@ where
         self.supervisor_access(Kind::LOAD, width, address, 0)
     }
 
-    /// A supervisor's store by global address. The page's write bit is not asked.
+    /// A supervisor's store by global address. The page's write bit is not asked; the value is, as in [`Board::store`].
     pub fn supervisor_store(&mut self, width: u32, address: u64, value: u32) -> Result<(), Refusal> {
         self.supervisor_access(Kind::STORE, width, address, value).map(drop)
     }

@@ -16,7 +16,8 @@ macro_rules! refusals {
 
 refusals! {
     Shape = 1, "the buffers' lengths or the board's four numbers disagree or are out of limits";
-    Range = 2, "a process, slot, segment, frame, physical line, line name, page or global address is outside its range";
+    Range = 2, "a process, slot, segment, frame, physical line, line name, page or global address is outside its range, or a \
+        store's value does not fit its width";
     Tag = 3, "a tag is pending (accesses, tag), or none is (load-and-map, drop tag)";
     Alignment = 4, "the width is not 1, 2 or 4, or the address is no multiple of it";
     Kernel = 5, "a user address from 2^31 up is the kernel's";

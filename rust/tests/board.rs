@@ -1,4 +1,5 @@
-// The safe crate beside the hostile test: limits, words, look's parts, the load in two parts, both kinds of buffers, entries.
+// The safe crate beside the hostile test: limits, words, look's parts, values, the load in two parts, both kinds of buffers,
+// entries.
 use oaledva::{entry_of_page, Board, Lent, Refusal, Shape};
 
 const SHAPE: Shape = Shape { frames: 4, uncached: 1, processes: 2, lines: 2 };
@@ -72,6 +73,38 @@ fn look_gives_a_part_of_the_board_itself() {
     assert_eq!(flushed[..4], [1, 2, 3, 4]);
     assert_eq!(flushed.as_ptr(), board.memory()[16 * line..].as_ptr());
     assert_eq!(board.look(4 * 256), Err(Refusal::Range));
+}
+
+/// A user's store, and a supervisor's to an ordinary address, under prefix 0 and under prefix 1.
+#[test]
+fn a_store_takes_what_fits_its_width() {
+    let mut board = mapped();
+    let addresses = [PAGE * 4096 + 8, 8, (1 << 32) + 2 * 4096 + 8];
+    let widths: [(u32, u32, &[u32]); 3] =
+        [(1, 0xFF, &[0x100, u32::MAX]), (2, 0xFFFF, &[0x1_0000, u32::MAX]), (4, u32::MAX, &[])];
+    for (width, largest, refused) in widths {
+        board.store(0, width, 4, largest).unwrap();
+        assert_eq!(board.load(0, width, 4), Ok(largest));
+        for address in addresses {
+            board.supervisor_store(width, address, largest).unwrap();
+            assert_eq!(board.supervisor_load(width, address), Ok(largest));
+        }
+        let before = board.clone();
+        for &value in refused {
+            assert_eq!(board.store(0, width, 4, value), Err(Refusal::Range), "{value:#x}");
+            assert_eq!(board.store(1, width, 5, value), Err(Refusal::Range), "{value:#x}, to an empty slot");
+            for address in addresses {
+                assert_eq!(board.supervisor_store(width, address, value), Err(Refusal::Range), "{value:#x}");
+            }
+        }
+        assert_eq!(board.store(0, 3, 4, u32::MAX), Err(Refusal::Alignment));
+        assert_eq!(board, before);
+    }
+    assert_eq!(
+        board.store(0, 1, 4, 300).unwrap_err().to_string(),
+        "a process, slot, segment, frame, physical line, line name, page or global address is outside its range, or a store's \
+         value does not fit its width (number 2)"
+    );
 }
 
 #[test]

@@ -1,5 +1,5 @@
 /* What the header adds to the library's functions, tried: boards in static buffers and in a block, limits, the calls on a
- * board, look's bytes, entries. tests/c/run compiles this as C99, C11, C++11 and C++17 and runs each. */
+ * board, values and widths, look's bytes, entries. tests/c/run compiles this as C99, C11, C++11 and C++17 and runs each. */
 #include <oaledva.h>
 #include <oaledva.h> /* twice is once */
 #include <stdio.h>
@@ -70,6 +70,43 @@ static void every_call(oaledva_board *b) {
     EXPECT(gives(oaledva_board_drop_tag(b), 0, 0, 0) && b->tag.set == 0 && b->tag.name == 0);
     EXPECT(gives(oaledva_board_detach(b, last, 511), 0, 0, 0));
     EXPECT(gives(oaledva_board_load(b, last, 1, 511u << 22), OALEDVA_SLOT_EMPTY, 0, 0));
+}
+
+/* A store's value has to fit its width; else the store is refused by 2 and no byte of the board changes. By a user; by a
+ * supervisor, to the same byte by its global address, under prefix 0 and under prefix 1. */
+static void values(void) {
+    static const uint32_t widths[] = {1, 2, 4}, largest_of[] = {0xff, 0xffff, 0xffffffff};
+    static const uint64_t addresses[] = {PAGE * 4096, 0, ((uint64_t)1 << 32) + 2 * 4096 + 16};
+    const size_t bytes = oaledva_board_bytes(4, 1, 2, 2);
+    void *const block = malloc(bytes), *const kept = malloc(bytes);
+    oaledva_board b;
+    EXPECT(kept != NULL && gives(oaledva_board_fresh(&b, 4, 1, 2, 2, block, bytes), 0, 0, 0));
+    EXPECT(gives(oaledva_board_map(&b, PAGE, 1, OALEDVA_WRITABLE), 0, 0, 0));
+    EXPECT(gives(oaledva_board_attach(&b, 0, 0, 2048, OALEDVA_WRITABLE), 0, 0, 0));
+    for (size_t i = 0; i < OALEDVA_COUNT(widths); i++) {
+        const uint32_t width = widths[i], largest = largest_of[i], next = largest + 1;
+        EXPECT(oaledva_done(oaledva_board_store(&b, 0, width, 0, largest)));
+        EXPECT(gives(oaledva_board_load(&b, 0, width, 0), 0, largest, 1));
+        for (size_t j = 0; j < OALEDVA_COUNT(addresses); j++) {
+            EXPECT(oaledva_done(oaledva_board_supervisor_store(&b, width, addresses[j], largest)));
+            EXPECT(oaledva_value(oaledva_board_supervisor_load(&b, width, addresses[j])) == largest);
+        }
+        memcpy(kept, block, bytes);
+        if (width < 4) {
+            EXPECT(gives(oaledva_board_store(&b, 0, width, 0, next), OALEDVA_RANGE, 0, 0));
+            EXPECT(gives(oaledva_board_store(&b, 0, width, 0, UINT32_MAX), OALEDVA_RANGE, 0, 0));
+            /* Before every number but 1: here at an odd address, and the kernel's. */
+            EXPECT(gives(oaledva_board_store(&b, 1, width, UINT64_MAX, next), OALEDVA_RANGE, 0, 0));
+            for (size_t j = 0; j < OALEDVA_COUNT(addresses); j++)
+                EXPECT(gives(oaledva_board_supervisor_store(&b, width, addresses[j], next), OALEDVA_RANGE, 0, 0));
+            /* A load's value is not asked. */
+            EXPECT(gives(oaledva_user_access(OALEDVA_LEND(b), b.tag, 0, OALEDVA_LOAD, width, 0, next), 0, largest, 1));
+        }
+        EXPECT(gives(oaledva_board_store(&b, 0, 3, 0, UINT32_MAX), OALEDVA_ALIGNMENT, 0, 0));
+        EXPECT(memcmp(kept, block, bytes) == 0);
+    }
+    free(kept);
+    free(block);
 }
 
 /* The entry of a page, at the ends of what is refused, and three of 01's. */
@@ -200,6 +237,7 @@ int main(void) {
     in_static_buffers();
     in_a_block();
     limits();
+    values();
     entries();
     return 0;
 }

@@ -8,6 +8,7 @@
 
 use crate::limits::*;
 use crate::routes::{Manner, Route};
+use crate::values::Access;
 use model::{
     frame_of, global_of, kind_of, mapping, name_in_range, name_of, offset_of, page_of_name, place_of, slot_of,
     slot_read, Board, Call, Event, Kind, Record, Shape,
@@ -49,6 +50,10 @@ cases! {
     Fresh TopUncached "prefix 0: done at the last byte of frame U - 1";
     Fresh TopCached "prefix 1: done at the last byte of memory";
     Fresh SupervisorReadOnly "supervisor store to a read-only page: done";
+    Fresh OutsideProcess "user access, 2: the process alone";
+    Fresh LargeUser "user store, 2: the value alone";
+    Fresh OutsideAddress "supervisor access, 2: the address alone";
+    Fresh LargeSupervisor "supervisor store, 2: the value alone";
     Fresh UnmappedUser "user access, 8: not mapped, not held";
     Fresh UnmappedSupervisor "supervisor access, 8: not mapped, not held";
     Fresh ReadOnlyRecord "user store, 9 by the record";
@@ -300,6 +305,20 @@ pub fn cases_of(facts: &Facts, call: &Call, event: Event) -> Vec<Case> {
     let done = !matches!(event, Event::Refused(_));
     when(done && shape.lines == LINES_MAX, Case::MostLines);
     when(done && shape.processes == PROCESSES_MAX, Case::MostProcesses);
+    if event == Event::Refused(2) {
+        let large = Access::of(call).is_some_and(|access| access.store && access.is_large());
+        match *call {
+            Call::UserAccess { process, .. } => {
+                when(!large, Case::OutsideProcess);
+                when(process < shape.processes, Case::LargeUser);
+            }
+            Call::SupervisorAccess { global, .. } => {
+                when(!large, Case::OutsideAddress);
+                when(global < GLOBAL_END, Case::LargeSupervisor);
+            }
+            _ => {}
+        }
+    }
     match (call, before) {
         (Call::UserAccess { store, address, .. }, Before::Line(line)) => {
             access_cases(line, *store, event, &USER_WAYS, &mut when);

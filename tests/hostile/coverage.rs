@@ -1,12 +1,13 @@
-//! What was reached: each refusal number of each call, each case, each route of each call, each call at the limits of P and L;
-//! and what must be.
+//! What was reached: each refusal number of each call, each case, each route of each call, each call at the limits of P and L,
+//! each value at the end of a width beside each number; and what must be.
 
 use crate::cases::{Case, Reach, CASES};
-use crate::limits::{ENTRY_PAGES, LINES_MAX, PROCESSES_MAX};
+use crate::limits::{ENTRY_PAGES, LINES_MAX, PROCESSES_MAX, VALUES, WIDTHS};
 use crate::routes::{Route, ROUTES};
 use crate::trace::Deed;
+use crate::values::{Tried, ROWS};
 use model::Call;
-use std::fmt::Write;
+use std::fmt::{Arguments, Write};
 
 /// The numbers end here.
 const NUMBERS: usize = 14;
@@ -69,6 +70,15 @@ pub const EDGES: [Edge; 4] = [
     Edge { words: "refused by 1 for twice the most lines", processes: 2, lines: 2 * LINES_MAX, number: 1 },
 ];
 
+/// Planned runs, which are counted apart: what else must be reached has to be reached without them.
+#[derive(Clone, Copy)]
+pub enum Planned {
+    /// On this board of `EDGES`.
+    Edge(usize),
+    /// Of `values.rs`.
+    Values,
+}
+
 /// Whether this call may give this number.
 pub fn in_table(deed: &Deed, number: u32) -> bool {
     row_of(deed).map_or(true, |row| KINDS[row].1.contains(&number))
@@ -83,6 +93,8 @@ struct Counts {
     entries: [[u64; ENTRY_PAGES.len()]; ROUTES.len()],
     /// The calls and looks on the boards of `EDGES`, by each route, that gave the number they must.
     edges: [[[u64; ENTRIES]; ROUTES.len()]; EDGES.len()],
+    /// The accesses of `ROWS` by each route, with each of `WIDTHS` and `VALUES`, that gave the number they must.
+    values: [[[[u64; VALUES.len()]; WIDTHS.len()]; ROWS.len()]; ROUTES.len()],
 }
 
 const NONE: Counts = Counts {
@@ -90,6 +102,7 @@ const NONE: Counts = Counts {
     cases: [0; CASES.len()],
     entries: [[0; ENTRY_PAGES.len()]; ROUTES.len()],
     edges: [[[0; ENTRIES]; ROUTES.len()]; EDGES.len()],
+    values: [[[[0; VALUES.len()]; WIDTHS.len()]; ROWS.len()]; ROUTES.len()],
 };
 
 #[derive(Clone)]
@@ -98,9 +111,8 @@ pub struct Coverage {
     wild: Counts,
     routes: [[u64; KINDS.len()]; ROUTES.len()],
     pub boards: u64,
-    /// The board of `EDGES` that is being run, if one is. Such runs are counted apart: what else must be reached has to be
-    /// reached without them.
-    pub edge: Option<usize>,
+    /// The planned runs that are being made, if any are.
+    pub planned: Option<Planned>,
     /// Audits of boards, and the looks in them.
     pub audits: u64,
     pub audit_looks: u64,
@@ -117,7 +129,7 @@ impl Coverage {
             wild: NONE,
             routes,
             boards: 0,
-            edge: None,
+            planned: None,
             audits: 0,
             audit_looks: 0,
             pairs: 0,
@@ -125,14 +137,24 @@ impl Coverage {
         }
     }
 
+    /// A value that an access tried, in whatever run.
+    pub fn count_value(&mut self, fresh: bool, route: Route, Tried { row, width, value }: Tried) {
+        let counts = if fresh { &mut self.fresh } else { &mut self.wild };
+        counts.values[route as usize][row][width][value] += 1;
+    }
+
     pub fn count(&mut self, fresh: bool, deed: &Deed, route: Route, number: u32, cases: &[Case]) {
         let counts = if fresh { &mut self.fresh } else { &mut self.wild };
         let row = row_of(deed);
-        if let Some(edge) = self.edge {
-            if let Some(row) = row.filter(|&row| row < ENTRIES && number == EDGES[edge].number) {
-                counts.edges[edge][route as usize][row] += 1;
+        match self.planned {
+            Some(Planned::Edge(edge)) => {
+                if let Some(row) = row.filter(|&row| row < ENTRIES && number == EDGES[edge].number) {
+                    counts.edges[edge][route as usize][row] += 1;
+                }
+                return;
             }
-            return;
+            Some(Planned::Values) => return,
+            None => {}
         }
         if let Some(row) = row {
             counts.numbers[row][number as usize] += 1;
@@ -150,7 +172,7 @@ impl Coverage {
 
     /// An audit with so many looks.
     pub fn count_audit(&mut self, looks: u64) {
-        if self.edge.is_none() {
+        if self.planned.is_none() {
             self.audits += 1;
             self.audit_looks += looks;
         }
@@ -173,64 +195,71 @@ impl Coverage {
         self.count_of_rows(ENTRIES..KINDS.len())
     }
 
-    /// Everything that must be reached, in words, with its count. But for the boards past a limit, number 1 cannot come on a
-    /// fresh board: there numbers and lengths agree. All else that a sequence of calls from a fresh board reaches must be
+    /// Shows everything that must be reached, in words, with its count. But for the boards past a limit, number 1 cannot come on
+    /// a fresh board: there numbers and lengths agree. All else that a sequence of calls from a fresh board reaches must be
     /// reached on one.
-    pub fn required(&mut self) -> Vec<(String, &mut u64)> {
-        let mut cells = Vec::new();
+    pub fn each_required(&mut self, mut see: impl FnMut(Arguments, &mut u64)) {
         for (counts, board) in [(&mut self.fresh, "fresh"), (&mut self.wild, "wild")] {
             for (row, (call, table)) in counts.numbers.iter_mut().zip(&KINDS) {
                 for (number, count) in row.iter_mut().enumerate() {
                     if table.contains(&(number as u32)) && (number != 1 || board == "wild") {
-                        cells.push((format!("{call}, number {number}, on a {board} board"), count));
+                        see(format_args!("{call}, number {number}, on a {board} board"), count);
                     }
                 }
             }
             for (count, (_, reach, words)) in counts.cases.iter_mut().zip(CASES) {
                 if (*reach == Reach::Fresh) == (board == "fresh") {
-                    cells.push((format!("{words}, on a {board} board"), count));
+                    see(format_args!("{words}, on a {board} board"), count);
                 }
             }
             for (counts, (_, route)) in counts.entries.iter_mut().zip(&ROUTES) {
                 for (count, page) in counts.iter_mut().zip(ENTRY_PAGES) {
-                    let words = format!("the entry of page {page:#x} by the {route} route, on a {board} board");
-                    cells.push((words, count));
+                    see(format_args!("the entry of page {page:#x} by the {route} route, on a {board} board"), count);
                 }
             }
             for (counts, Edge { words, .. }) in counts.edges.iter_mut().zip(&EDGES) {
                 for (counts, (_, route)) in counts.iter_mut().zip(&ROUTES) {
                     for (count, (call, _)) in counts.iter_mut().zip(&KINDS) {
-                        cells.push((format!("{call}, {words}, by the {route} route, on a {board} board"), count));
+                        see(format_args!("{call}, {words}, by the {route} route, on a {board} board"), count);
+                    }
+                }
+            }
+            for (counts, (route, name)) in counts.values.iter_mut().zip(ROUTES) {
+                for (counts, row) in counts.iter_mut().zip(&ROWS) {
+                    let widths = counts.iter_mut().zip(WIDTHS);
+                    for (counts, width) in widths.filter(|(_, width)| row.can_be(*width, route, board == "fresh")) {
+                        for (count, value) in counts.iter_mut().zip(VALUES) {
+                            let tried = format_args!("{row}, value {value:#x}, width {width}");
+                            see(format_args!("{tried}, by the {name} route, on a {board} board"), count);
+                        }
                     }
                 }
             }
         }
         for (row, (_, route)) in self.routes.iter_mut().zip(&ROUTES) {
             for (count, (call, _)) in row.iter_mut().zip(&KINDS) {
-                cells.push((format!("{call} by the {route} route"), count));
+                see(format_args!("{call} by the {route} route"), count);
             }
         }
-        cells.push(("an audit of a fresh board".into(), &mut self.audits));
-        cells.push(("a pair of runs".into(), &mut self.pairs));
-        cells.push(("a pair of runs whose marks differ".into(), &mut self.pairs_apart));
-        cells
+        see(format_args!("an audit of a fresh board"), &mut self.audits);
+        see(format_args!("a pair of runs"), &mut self.pairs);
+        see(format_args!("a pair of runs whose marks differ"), &mut self.pairs_apart);
     }
 
     /// What was not reached, and what was though no sequence of calls should.
     pub fn problems(&mut self) -> Vec<String> {
-        let unreached = self.required().into_iter().filter(|(_, count)| **count == 0);
-        let mut problems: Vec<String> = unreached.map(|(words, _)| format!("not reached: {words}")).collect();
+        let mut problems = Vec::new();
+        self.each_required(|words, count| {
+            if *count == 0 {
+                problems.push(format!("not reached: {words}"));
+            }
+        });
         for (count, (_, reach, words)) in self.fresh.cases.iter().zip(CASES) {
             if *reach == Reach::Wild && *count > 0 {
                 problems.push(format!("reached from a fresh board, which no calls should: {words}"));
             }
         }
         problems
-    }
-
-    /// Sets every required count, for the self-test.
-    pub fn set_required(&mut self, value: u64) {
-        self.required().into_iter().for_each(|(_, count)| *count = value);
     }
 
     pub fn table(&self) -> String {

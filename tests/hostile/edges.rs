@@ -2,14 +2,13 @@
 //! past it every call must be refused by 1; by every route, on fresh boards and on wild ones. What was reached is counted
 //! apart from all other runs. The limit of F is tried in `largest.rs`.
 
-use crate::coverage::{Coverage, EDGES};
+use crate::coverage::{Coverage, Planned, EDGES};
 use crate::limits::*;
 use crate::pairs::Failure;
 use crate::plant::Plant;
 use crate::rng::Rng;
-use crate::routes::{Manner, ROUTES};
 use crate::trace::{Deed, Start, Step};
-use crate::{gen, stepped};
+use crate::{gen, stepped, ways};
 use model::{Board, Call, Shape, NO_TAG};
 
 const FRAMES: u64 = 4;
@@ -72,15 +71,14 @@ pub fn edges(rng: &mut Rng, plant: Option<Plant>, coverage: &mut Coverage) -> Re
     let mut boards = 0;
     for (index, edge) in EDGES.iter().enumerate() {
         let shape = Shape { frames: FRAMES, uncached: 1, processes: edge.processes, lines: edge.lines };
-        coverage.edge = Some(index);
-        for (fresh, (route, _)) in [true, false].into_iter().flat_map(|fresh| ROUTES.map(|route| (fresh, route))) {
+        coverage.planned = Some(Planned::Edge(index));
+        for (fresh, manner) in ways() {
             let start = start(rng, shape, fresh);
             let deeds = deeds(&start.board);
-            let manner = Manner { route, yes: 1, null: false };
             stepped(start, deeds.len(), plant, coverage, |index, _| Step { deed: deeds[index], manner })?;
             boards += 1;
         }
     }
-    coverage.edge = None;
+    coverage.planned = None;
     Ok(boards)
 }

@@ -332,9 +332,16 @@ fn byte_and_width(rng: &mut Rng) -> (u64, u32) {
     (if aligned { byte - byte % u64::from(width) } else { byte }, width)
 }
 
-fn value(rng: &mut Rng) -> u32 {
+/// A value, mostly one that fits the width: any, the largest or a small one; else at the end of some width, or any at all.
+fn value(rng: &mut Rng, width: u32) -> u32 {
     let random = rng.next() as u32;
-    rng.pick(&[random, random, random, 0, 1, 0x80, 0xFFFF, u32::MAX])
+    let largest = end_of_width(width).map_or(u32::MAX, |end| (end - 1) as u32);
+    match rng.below(10) {
+        0 => random,
+        1 => rng.pick(&VALUES),
+        2 => rng.pick(&[0, 1, 0x80, largest]),
+        _ => random & largest,
+    }
 }
 
 /// A user's access: mostly through a slot that is attached, to a line that is held or a page that is mapped.
@@ -369,7 +376,7 @@ pub fn user_access(rng: &mut Rng, world: &World, board: &Board, process: u64) ->
         _ => {}
     }
     let address = (slot * SEGMENT_SPAN + within) as u32;
-    Call::UserAccess { process, store: rng.flip(), width, address, value: value(rng) }
+    Call::UserAccess { process, store: rng.flip(), width, address, value: value(rng, width) }
 }
 
 fn supervisor_access(rng: &mut Rng, world: &World, board: &Board) -> Call {
@@ -403,7 +410,7 @@ fn supervisor_access(rng: &mut Rng, world: &World, board: &Board) -> Call {
             at + byte % 4
         }
     };
-    Call::SupervisorAccess { store: rng.flip(), width, global: line, value: value(rng) }
+    Call::SupervisorAccess { store: rng.flip(), width, global: line, value: value(rng, width) }
 }
 
 fn attach(rng: &mut Rng, world: &World, board: &Board) -> Call {

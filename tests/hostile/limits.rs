@@ -1,5 +1,5 @@
-//! 01's numbers, with P and L by CR 7, written out again: the boundaries that the test tries must not move with a mistake in
-//! the model.
+//! 01's numbers, with P and L by CR 7, and CR 2's, written out again: the boundaries that the test tries must not move with a
+//! mistake in the model.
 
 pub const PAGE_BYTES: u64 = 4096;
 pub const LINE_BYTES: u64 = 16;
@@ -25,6 +25,20 @@ pub const ENTRY_PAGES: [u64; 6] = [0, 0x1F_FFFF, 0x20_0000, 0xFFFF_FFFF, 0x1_000
 pub const USER_END: u32 = 0x8000_0000;
 pub const GLOBAL_END: u64 = 1 << 44;
 pub const NAMES_END: u64 = 1 << 40;
+
+/// The first value that is too large for a store of this width, by CR 2; other numbers are no widths.
+pub fn end_of_width(width: u32) -> Option<u64> {
+    match width {
+        1 => Some(0x100),
+        2 => Some(0x1_0000),
+        4 => Some(0x1_0000_0000),
+        _ => None,
+    }
+}
+
+/// The widths, then some numbers that are none; and the values at the ends of what the widths hold.
+pub const WIDTHS: [u32; 8] = [1, 2, 4, 0, 3, 5, 8, u32::MAX];
+pub const VALUES: [u32; 5] = [0xFF, 0x100, 0xFFFF, 0x1_0000, u32::MAX];
 
 /// Where prefix 1 begins and where it ends, and where the page table region begins, as global addresses.
 pub const PREFIX1: u64 = 0x1_0000_0000;

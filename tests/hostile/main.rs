@@ -17,6 +17,7 @@ mod run;
 mod self_test;
 mod shrink;
 mod trace;
+mod values;
 
 use apart::End;
 use coverage::Coverage;
@@ -25,6 +26,7 @@ use model::{Answer, Board};
 use pairs::Failure;
 use plant::Plant;
 use rng::Rng;
+use routes::{Manner, ROUTES};
 use run::{Difference, Given, Run};
 use shrink::Fails;
 use std::process::ExitCode;
@@ -158,6 +160,12 @@ fn board(
     })
 }
 
+/// Every route, on fresh boards and on wild ones: whether it is a fresh one, and how calls are brought.
+pub fn ways() -> impl Iterator<Item = (bool, Manner)> {
+    let manners = ROUTES.map(|(route, _)| Manner { route, yes: 1, null: false });
+    [true, false].into_iter().flat_map(move |fresh| manners.map(|manner| (fresh, manner)))
+}
+
 /// A run of so many steps, each made with an eye on the board as it stands.
 pub fn stepped(
     start: Start,
@@ -184,9 +192,12 @@ fn search_and_report(options: &Options) -> Result<(), String> {
     }
     let mut coverage = Coverage::new();
     let mut rng = Rng::new(options.seed);
-    let outcome = search(&mut rng, options.calls, options.plant, &mut coverage)
-        .and_then(|()| edges::edges(&mut rng, options.plant, &mut coverage));
-    let edges = match outcome {
+    let mut runs = || {
+        search(&mut rng, options.calls, options.plant, &mut coverage)?;
+        let edges = edges::edges(&mut rng, options.plant, &mut coverage)?;
+        Ok((edges, values::values(&mut rng, options.plant, &mut coverage)?))
+    };
+    let (edges, values) = match runs() {
         Ok(boards) => boards,
         Err(Failure::Run(trace, difference)) => return Err(report(run::first_difference, *trace, difference)?),
         Err(Failure::Apart(traces, text)) => return Err(report_pair(&traces, &text)?),
@@ -196,6 +207,7 @@ fn search_and_report(options: &Options) -> Result<(), String> {
     println!("{} entries of pages", coverage.entries());
     println!("{} looks by themselves; {audits} audits of a fresh board with {audit_looks} looks", coverage.looks());
     println!("{edges} boards at the limits of P and L and past them, every call on each");
+    println!("{values} boards with values at the ends of the widths, beside each number that an access gives");
     println!("{pairs} pairs of runs, equal for process 0; in {pairs_apart} of them a hit mark differs");
     let problems = coverage.problems();
     if !problems.is_empty() {

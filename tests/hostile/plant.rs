@@ -2,8 +2,10 @@
 //! plain machine, of those), so that the self-test can show that the check behind it fails.
 
 use crate::guarded::{Element, Guarded, Real};
+use crate::limits::end_of_width;
 use crate::routes::Looked;
 use crate::run::Kind;
+use crate::values::{fitting, Access, Whose};
 use model::{Answer, Board, Call, Event, Plain, PlainAnswer, Record};
 
 #[derive(Clone, Copy, Debug, PartialEq, Eq)]
@@ -31,12 +33,34 @@ pub enum Plant {
     PlainValue,
     PlainMemory,
     TwoCopies,
+    Asks(Asks),
     Panic,
     Signal,
     Hang,
 }
 
-pub const PLANTS: [(Plant, &str); 26] = [
+/// Of which values it is asked, wrongly, whether they fit.
+#[derive(Clone, Copy, Debug, PartialEq, Eq)]
+pub enum Asks {
+    /// Of a load's too.
+    Loads,
+    /// At width 3 too.
+    Width3,
+    /// The first that does not fit is taken.
+    TakesFirst,
+    /// The largest that fits is refused.
+    RefusesLargest,
+    /// Not of a supervisor's.
+    Users,
+    /// Not under prefix 0.
+    Cached,
+    /// Only where no other number applies.
+    Last,
+    /// Of none: a store takes the low bits.
+    Never,
+}
+
+pub const PLANTS: [(Plant, &str); 34] = [
     (Plant::Number, "number"),
     (Plant::Value, "value"),
     (Plant::Mark, "mark"),
@@ -60,6 +84,14 @@ pub const PLANTS: [(Plant, &str); 26] = [
     (Plant::PlainValue, "plain-value"),
     (Plant::PlainMemory, "plain-memory"),
     (Plant::TwoCopies, "two-copies"),
+    (Plant::Asks(Asks::Loads), "asks-loads"),
+    (Plant::Asks(Asks::Width3), "asks-width-3"),
+    (Plant::Asks(Asks::TakesFirst), "takes-first"),
+    (Plant::Asks(Asks::RefusesLargest), "refuses-last"),
+    (Plant::Asks(Asks::Users), "asks-users"),
+    (Plant::Asks(Asks::Cached), "asks-cached"),
+    (Plant::Asks(Asks::Last), "asks-last"),
+    (Plant::Asks(Asks::Never), "low-bits"),
     (Plant::Panic, "panic"),
     (Plant::Signal, "signal"),
     (Plant::Hang, "hang"),
@@ -76,7 +108,7 @@ impl Plant {
     /// The check that has to find it.
     pub fn found_as(self) -> Kind {
         match self {
-            Plant::Number | Plant::Unfit => Kind::Number,
+            Plant::Number | Plant::Unfit | Plant::Asks(_) => Kind::Number,
             Plant::Value => Kind::Value,
             Plant::Mark => Kind::Mark,
             Plant::OffTable => Kind::Table,
@@ -103,6 +135,7 @@ impl Plant {
         (model, expected): (&mut Board, &mut Answer),
     ) {
         match (self, event) {
+            (Plant::Asks(asks), _) => *answer = asks.answer(call, answer, model),
             (Plant::Number, Event::Refused(9)) => answer.number = 7,
             (Plant::Value, Event::Hit) if answer.value != 0 => answer.value ^= 0x100,
             (Plant::Mark, Event::MissWriteBack) => answer.mark = 1,
@@ -166,6 +199,32 @@ impl Plant {
             Plant::PlainMemory if !held.is_empty() => plain.memory[0] ^= 1,
             Plant::TwoCopies => held.extend(held.first().copied()),
             _ => {}
+        }
+    }
+}
+
+impl Asks {
+    /// What a library that asks so answers to a call, where the right one answers `right`. The model's board tells what an
+    /// access would be with a value that fits, where `right` is a refusal by 2: that has left it as it was.
+    fn answer(self, call: &Call, right: &Answer, model: &Board) -> Answer {
+        let Some(access) = Access::of(call).filter(|_| right.number != 1) else { return *right };
+        let Access { whose, store, width, value } = access;
+        let otherwise = || model.clone().step(&fitting(call)).0;
+        let should = store && access.is_large();
+        let does = match self {
+            Asks::Loads => access.is_large(),
+            Asks::Width3 => should || store && width == 3 && value >= 1 << 24,
+            Asks::TakesFirst => should && end_of_width(width) != Some(value.into()),
+            Asks::RefusesLargest => should || store && end_of_width(width) == Some(u64::from(value) + 1),
+            Asks::Users => should && whose == Whose::User,
+            Asks::Cached => should && whose != Whose::Prefix0,
+            Asks::Last => should && otherwise().number == 0,
+            Asks::Never => false,
+        };
+        match (should, does) {
+            (false, true) => Answer { number: 2, value: 0, mark: 0 },
+            (true, false) => otherwise(),
+            _ => *right,
         }
     }
 }

@@ -8,6 +8,7 @@ use crate::limits::{LINES_PER_PAGE, LINE_BYTES};
 use crate::plant::Plant;
 use crate::routes::{self, Manner, Route};
 use crate::trace::{Deed, Start, Step, Trace};
+use crate::values;
 use model::{Answer, Board, Call, Event, Plain, Record};
 use std::fmt::Display;
 use std::panic::{catch_unwind, AssertUnwindSafe};
@@ -155,6 +156,9 @@ impl Run {
         self.same_as_plain(call, &answer, event)?;
         cases.extend(cases::cases_of(&facts, call, event));
         coverage.count(self.fresh, &deed, manner.route, answer.number, &cases);
+        if let Some(tried) = values::tried(&self.model, call, event, answer.number) {
+            coverage.count_value(self.fresh, manner.route, tried);
+        }
         Ok(Given::Call(answer, event))
     }
 

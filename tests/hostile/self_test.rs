@@ -10,7 +10,7 @@ use crate::rng::Rng;
 use crate::run::{first_difference, quietly, Difference, Kind};
 use crate::shrink::{self, Fails};
 use crate::trace::{self, Trace};
-use crate::{apart, edges, routes, search};
+use crate::{apart, edges, routes, search, values};
 use model::{Board, Shape};
 
 /// Calls within which a planted fault must be found.
@@ -29,8 +29,11 @@ pub fn all() -> Result<(), String> {
     println!("planted fault hang          ended by a signal");
     planted_pair()?;
     println!("planted fault in a pair of runs found");
-    planted_edges()?;
+    planted_in(edges::edges, &[Plant::Slots, Plant::Unfit])?;
     println!("planted faults on a board at a limit and on one past it found");
+    let asks: Vec<Plant> = PLANTS.map(|(plant, _)| plant).into_iter().filter(|p| matches!(p, Plant::Asks(_))).collect();
+    planted_in(values::values, &asks)?;
+    println!("planted faults in what is asked of values found beside the numbers");
     canaries()?;
     println!("each canary, changed, is named");
     let required = unreached()?;
@@ -103,12 +106,14 @@ fn planted_pair() -> Result<(), String> {
     }
 }
 
-/// A fault at the limits, and one past them.
-fn planted_edges() -> Result<(), String> {
-    for plant in [Plant::Slots, Plant::Unfit] {
-        match edges::edges(&mut Rng::new(7), Some(plant), &mut Coverage::new()) {
+type Runs = fn(&mut Rng, Option<Plant>, &mut Coverage) -> Result<usize, Failure>;
+
+/// Each of these faults must be found in planned runs.
+fn planted_in(runs: Runs, plants: &[Plant]) -> Result<(), String> {
+    for &plant in plants {
+        match runs(&mut Rng::new(7), Some(plant), &mut Coverage::new()) {
             Err(Failure::Run(_, difference)) if difference.kind == plant.found_as() => {}
-            _ => return Err(format!("planted fault {plant:?} on a board at a limit or past it: not found")),
+            _ => return Err(format!("planted fault {plant:?} in planned runs: not found")),
         }
     }
     Ok(())
@@ -143,15 +148,20 @@ fn canaries() -> Result<(), String> {
 
 /// Each thing to be reached, left out alone, must be named alone.
 fn unreached() -> Result<usize, String> {
-    let mut full = Coverage::new();
-    full.set_required(1);
+    let (mut full, mut names) = (Coverage::new(), Vec::new());
+    full.each_required(|name, count| {
+        *count = 1;
+        names.push(name.to_string());
+    });
     if !full.problems().is_empty() {
         return Err("a full coverage has problems".into());
     }
-    let names: Vec<String> = full.required().into_iter().map(|(name, _)| name).collect();
-    for (index, name) in names.iter().enumerate() {
-        let mut coverage = full.clone();
-        *coverage.required()[index].1 = 0;
+    for (left_out, name) in names.iter().enumerate() {
+        let (mut coverage, mut index) = (full.clone(), 0);
+        coverage.each_required(|_, count| {
+            *count = u64::from(index != left_out);
+            index += 1;
+        });
         if coverage.problems() != [format!("not reached: {name}")] {
             return Err(format!("not missed when it is not reached: {name}"));
         }

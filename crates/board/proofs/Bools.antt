@@ -14,6 +14,14 @@ pub and-right : (a b : Bool) → (a && b) ≡ true → b ≡ true
 and-right true b e = e
 and-right false b e = clash false e refl
 
+pub and-rest : (a b : Bool) → a ≡ true → (a && b) ≡ false → b ≡ false
+and-rest true b e h = h
+and-rest false b e h = clash false e refl
+
+pub and-false : (a : Bool) → (a && false) ≡ false
+and-false true = refl
+and-false false = refl
+
 pub or-left : (a b : Bool) → a ≡ true → (a || b) ≡ true
 or-left true b e = refl
 or-left false b e = clash false e refl
@@ -21,6 +29,10 @@ or-left false b e = clash false e refl
 pub or-right : (a b : Bool) → b ≡ true → (a || b) ≡ true
 or-right true b e = refl
 or-right false b e = e
+
+pub or-rest : (a b : Bool) → b ≡ false → (a || b) ≡ true → a ≡ true
+or-rest true b h e = refl
+or-rest false b h e = clash b e h
 
 pub or-false : (a b : Bool) → (a || b) ≡ false → (a ≡ false) × (b ≡ false)
 or-false true b e = clash true refl e

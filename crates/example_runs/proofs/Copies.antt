@@ -31,7 +31,7 @@ use Rattle.reach.specs.Reach.{wayByHome, wayBy, wayOf, unreached, mayWrite}
 use Rattle.visits.specs.Visits.{selects, visitedAll}
 use Rattle.visits.specs.declared.Visit.the-variants.{Map}
 use Rattle.machine.specs.Boards.{Board, board, noTag}
-use Rattle.machine.specs.Refusals.{byTable, alignedTo, isOrdinary, isMapped, isCached, outside}
+use Rattle.machine.specs.Refusals.{byTable, tooLarge, alignedTo, isOrdinary, isMapped, isCached, outside}
 use Rattle.machine.specs.Accesses.{performedOn, accessedBy, accessed, userTable, userAccess, supervisorTable, supervisorDone, supervisorAccess}
 use Rattle.machine.specs.Calls as calls
 use Rattle.machine.specs.Calls.{mapPage, mapped}
@@ -158,7 +158,7 @@ abbrev cache1 : List ℕ
 cache1 = stored (withLine (zeros 8192) 0 (lineOf memory 0)) 0 4 50
 
 does-direct : Does shape start directStore (answer 0 0 0) (untagged slots0 0 one cache1 memory)
-unfolding ones onesIn fitsShape mappedTo homeBy directHome freeFrame homeOf lineAt putLine holdsLine holdsAt holderFrom holderOf writtenBack filled noted inserted performedAt wayByHome wayBy wayOf unreached byTable alignedTo isOrdinary isCached outside performedOn accessedBy accessed regionOf supervisorTable supervisorDone supervisorAccess supervise step
+unfolding ones onesIn fitsShape mappedTo homeBy directHome freeFrame homeOf lineAt putLine holdsLine holdsAt holderFrom holderOf writtenBack filled noted inserted performedAt wayByHome wayBy wayOf unreached byTable tooLarge alignedTo isOrdinary isCached outside performedOn accessedBy accessed regionOf supervisorTable supervisorDone supervisorAccess supervise step
 does-direct = record { does = rw (length-zeros 8192, length-memory) }
 
 module _ (r c m : List ℕ) (records-are : length r ≡ 1024) (cache-is : length c ≡ 8192) (memory-is : length m ≡ 4096) where
@@ -180,7 +180,7 @@ module _ (r c m : List ℕ) (records-are : length r ≡ 1024) (cache-is : length
   does-load : lineAt r 256 ≡ noLine
       → Does shape (untagged slots1 (frameWord 0x200001 true) r c m) (load 0 0x1003) (answer 0 (getD m 3 0) 0)
       (untagged slots1 (frameWord 0x200001 true) (putLine r 256 pageLine) (withLine c 256 (lineOf m 0)) m)
-  unfolding ones onesIn fitsShape lowestFrom lowestFrame mappedTo homeBy homeOf holdsLine holdsAt holderFrom holderOf filled noted inserted performedAt wayByHome wayBy wayOf unreached mayWrite byTable alignedTo performedOn accessedBy accessed userTable userAccess step
+  unfolding ones onesIn fitsShape lowestFrom lowestFrame mappedTo homeBy homeOf holdsLine holdsAt holderFrom holderOf filled noted inserted performedAt wayByHome wayBy wayOf unreached mayWrite byTable tooLarge alignedTo performedOn accessedBy accessed userTable userAccess step
   does-load h = record { does = rw (records-are, cache-is, memory-is, h, none-written shape 256 r c m h, loaded-byte) }
 
 cache1-is : length cache1 ≡ 8192

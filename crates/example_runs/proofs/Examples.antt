@@ -27,7 +27,7 @@ use Rattle.stores.specs.Stores.{writtenBack, filled, noted, inserted, performed
 use Rattle.reach.specs.Reach.{wayByHome, wayBy, wayOf, unreached, mayWrite}
 use Rattle.visits.specs.Visits.{visited, sweep, visitedAll}
 use Rattle.machine.specs.Boards.{Board, board, noTag, Fresh}
-use Rattle.machine.specs.Refusals.{byTable, alignedTo, isMapped}
+use Rattle.machine.specs.Refusals.{byTable, tooLarge, alignedTo, isMapped}
 use Rattle.machine.specs.Accesses.{performedOn, accessedBy, accessed, userTable, userAccess}
 use Rattle.machine.specs.Calls as calls
 use Rattle.machine.specs.Calls.{mapPage, mapped}
@@ -88,14 +88,14 @@ slots1 = set slots0 0 (slotWord 2048 true)
 abbrev slots2 : Bool → List ℕ
 slots2 write = set slots1 512 (slotWord 2048 write)
 
-abbrev slots3 : Bool → List ℕ
+abbrev pub slots3 : Bool → List ℕ
 slots3 write = set (slots2 write) 513 (slotWord 2049 true)
 
 -- the frame words: one page mapped, and both
 abbrev pub words1 : List ℕ
 words1 = 0 ∷ frameWord 0x200000 true ∷ 0 ∷ 0 ∷ []
 
-abbrev words2 : List ℕ
+abbrev pub words2 : List ℕ
 words2 = 0 ∷ frameWord 0x200000 true ∷ frameWord 0x200400 true ∷ 0 ∷ []
 
 -- no line held
@@ -157,57 +157,57 @@ module _ (m : List ℕ) (fits : length m ≡ 16384) where
     does-attach-other = record { does = rw fits }
 
     does-save-fifty : lineOf m 256 ≡ lineWith 0 → Does shape (empty (slots3 write) words2 m) (save 0 4 0 50) (answer 0 0 0) (holding write (changedLine ours) 50 m)
-    unfolding ones onesIn part splice fitsShape lowestFrom lowestFrame mappedTo homeBy homeOf digits stored withLine lineAt putLine holdsLine holdsAt holderFrom holderOf writtenBack filled noted inserted performedAt wayByHome wayBy wayOf unreached mayWrite byTable alignedTo performedOn accessedBy accessed userTable userAccess step
+    unfolding ones onesIn part splice fitsShape lowestFrom lowestFrame mappedTo homeBy homeOf digits stored withLine lineAt putLine holdsLine holdsAt holderFrom holderOf writtenBack filled noted inserted performedAt wayByHome wayBy wayOf unreached mayWrite byTable tooLarge alignedTo performedOn accessedBy accessed userTable userAccess step
     does-save-fifty h = record { does = rw (fits, h) }
 
     -- the line of process 0 is held, changed
     does-hit : (value : ℕ) → Does shape (holding write (changedLine ours) value m) (load 0 3) (answer 0 value 1) (holding write (changedLine ours) value m)
-    unfolding ones onesIn fitsShape number lineAt holdsLine holdsAt holderFrom holderOf performedAt wayBy wayOf unreached mayWrite byTable alignedTo performedOn accessedBy accessed userTable userAccess step
+    unfolding ones onesIn fitsShape number lineAt holdsLine holdsAt holderFrom holderOf performedAt wayBy wayOf unreached mayWrite byTable tooLarge alignedTo performedOn accessedBy accessed userTable userAccess step
     does-hit value = record { does = rw (fits, zero-add) }
 
   -- run A: process 1 loads the 50
   does-hit-shared : Does shape (holding false (changedLine ours) 50 m) (load 1 3) (answer 0 50 1) (holding false (changedLine ours) 50 m)
-  unfolding ones onesIn fitsShape number lineAt holdsLine holdsAt holderFrom holderOf performedAt wayBy wayOf unreached mayWrite byTable alignedTo performedOn accessedBy accessed userTable userAccess step
+  unfolding ones onesIn fitsShape number lineAt holdsLine holdsAt holderFrom holderOf performedAt wayBy wayOf unreached mayWrite byTable tooLarge alignedTo performedOn accessedBy accessed userTable userAccess step
   does-hit-shared = record { does = rw fits }
 
   -- its store of 7 pushes the 50 out
   does-push : lineOf (withLine m 256 (lineWith 50)) 512 ≡ lineWith 0
       → Does shape (holding false (changedLine ours) 50 m) (save 1 4 0x400000 7) (answer 0 0 0) (holding false (changedLine others) 7 (withLine m 256 (lineWith 50)))
-  unfolding ones onesIn part splice fitsShape lowestFrom lowestFrame mappedTo homeBy homeOf digits stored lineOf withLine lineAt putLine holdsLine holdsAt holderFrom holderOf writtenBack filled noted inserted performedAt wayByHome wayBy wayOf unreached mayWrite byTable alignedTo performedOn accessedBy accessed userTable userAccess step
+  unfolding ones onesIn part splice fitsShape lowestFrom lowestFrame mappedTo homeBy homeOf digits stored lineOf withLine lineAt putLine holdsLine holdsAt holderFrom holderOf writtenBack filled noted inserted performedAt wayByHome wayBy wayOf unreached mayWrite byTable tooLarge alignedTo performedOn accessedBy accessed userTable userAccess step
   does-push h = record { does = rw (fits, h) }
 
   -- process 0 loads its 50 from memory, which pushes the 7 out
   does-load-fifty : lineOf (withLine m 512 (lineWith 7)) 256 ≡ lineWith 50
       → Does shape (holding false (changedLine others) 7 m) (load 0 3) (answer 0 50 0) (holding false ours 50 (withLine m 512 (lineWith 7)))
-  unfolding ones onesIn part splice fitsShape lowestFrom lowestFrame mappedTo homeBy homeOf number lineOf withLine lineAt putLine holdsLine holdsAt holderFrom holderOf writtenBack filled noted inserted performedAt wayByHome wayBy wayOf unreached mayWrite byTable alignedTo performedOn accessedBy accessed userTable userAccess step
+  unfolding ones onesIn part splice fitsShape lowestFrom lowestFrame mappedTo homeBy homeOf number lineOf withLine lineAt putLine holdsLine holdsAt holderFrom holderOf writtenBack filled noted inserted performedAt wayByHome wayBy wayOf unreached mayWrite byTable tooLarge alignedTo performedOn accessedBy accessed userTable userAccess step
   does-load-fifty h = record { does = rw (fits, h) }
 
   -- process 1 loads its 7 from memory; the 50 that leaves is not changed
   does-load-seven : lineOf m 512 ≡ lineWith 7 → Does shape (holding false ours 50 m) (load 1 0x400003) (answer 0 7 0) (last m)
-  unfolding ones onesIn part splice fitsShape lowestFrom lowestFrame mappedTo homeBy homeOf number lineOf withLine lineAt putLine holdsLine holdsAt holderFrom holderOf writtenBack filled noted inserted performedAt wayByHome wayBy wayOf unreached mayWrite byTable alignedTo performedOn accessedBy accessed userTable userAccess step
+  unfolding ones onesIn part splice fitsShape lowestFrom lowestFrame mappedTo homeBy homeOf number lineOf withLine lineAt putLine holdsLine holdsAt holderFrom holderOf writtenBack filled noted inserted performedAt wayByHome wayBy wayOf unreached mayWrite byTable tooLarge alignedTo performedOn accessedBy accessed userTable userAccess step
   does-load-seven h = record { does = rw (fits, h) }
 
   -- run B: the 9 goes to record 1, the 8 is refused, and the 50 is still held
   does-save-nine : lineOf m 513 ≡ lineWith 0 → Does shape (holding false (changedLine ours) 50 m) (save 1 4 0x400010 9) (answer 0 0 0) (apart m)
-  unfolding ones onesIn part splice fitsShape lowestFrom lowestFrame mappedTo homeBy homeOf digits stored lineOf withLine lineAt putLine holdsLine holdsAt holderFrom holderOf writtenBack filled noted inserted performedAt wayByHome wayBy wayOf unreached mayWrite byTable alignedTo performedOn accessedBy accessed userTable userAccess step
+  unfolding ones onesIn part splice fitsShape lowestFrom lowestFrame mappedTo homeBy homeOf digits stored lineOf withLine lineAt putLine holdsLine holdsAt holderFrom holderOf writtenBack filled noted inserted performedAt wayByHome wayBy wayOf unreached mayWrite byTable tooLarge alignedTo performedOn accessedBy accessed userTable userAccess step
   does-save-nine h = record { does = rw (fits, h) }
 
   does-refuse : Does shape (apart m) (save 1 1 3 8) (answer 7 0 0) (apart m)
-  unfolding ones onesIn fitsShape byTable alignedTo userTable userAccess step
+  unfolding ones onesIn fitsShape byTable tooLarge alignedTo userTable userAccess step
   does-refuse = record { does = rw fits }
 
   does-hit-apart : Does shape (apart m) (load 0 3) (answer 0 50 1) (apart m)
-  unfolding ones onesIn fitsShape number lineAt holdsLine holdsAt holderFrom holderOf performedAt wayBy wayOf unreached mayWrite byTable alignedTo performedOn accessedBy accessed userTable userAccess step
+  unfolding ones onesIn fitsShape number lineAt holdsLine holdsAt holderFrom holderOf performedAt wayBy wayOf unreached mayWrite byTable tooLarge alignedTo performedOn accessedBy accessed userTable userAccess step
   does-hit-apart = record { does = rw fits }
 
   -- run C: process 1 stores over the 50
   does-over : Does shape (holding true (changedLine ours) 50 m) (save 1 1 3 7) (answer 0 0 1) (holding true (changedLine ours) 7 m)
-  unfolding ones onesIn splice fitsShape digits stored lineAt putLine holdsLine holdsAt holderFrom holderOf performedAt wayBy wayOf unreached mayWrite byTable alignedTo performedOn accessedBy accessed userTable userAccess step
+  unfolding ones onesIn splice fitsShape digits stored lineAt putLine holdsLine holdsAt holderFrom holderOf performedAt wayBy wayOf unreached mayWrite byTable tooLarge alignedTo performedOn accessedBy accessed userTable userAccess step
   does-over = record { does = rw fits }
 
   -- after run A: two refusals, and what look shows
   refuse-user : LowerGiven (last m) (save 1 4 2 8) 4 7
-  unfolding ones onesIn fitsShape byTable alignedTo userTable userAccess step rowsOf appliesIn
+  unfolding ones onesIn fitsShape byTable tooLarge alignedTo userTable userAccess step rowsOf appliesIn
   refuse-user = record { low-applies = rw fits; high-applies = rw fits; in-order = omega arith; low-given = rw fits }
 
   refuse-map : LowerGiven (last m) (supervisor (map 0x200000 1 true)) 10 11
@@ -262,10 +262,10 @@ memory4-other : lineOf memory4 512 ≡ lineWith 7
 memory4-other = written-here memory3 memory3-fits 512 (omega arith) (lineWith 7) refl
 
 -- the opening
-abbrev six : List Answer → List Answer
+abbrev pub six : List Answer → List Answer
 six l = answer 0 0 0 ∷ answer 0 0 0 ∷ answer 0 0 0 ∷ answer 0 0 0 ∷ answer 0 0 0 ∷ answer 0 0 0 ∷ l
 
-ran-opening : (write : Bool) {ks : List Call} {l : List Answer} {c : Board} → Ran shape (holding write (changedLine ours) 50 memory2) ks l c → Ran shape start (opening write ks) (six l) c
+pub ran-opening : (write : Bool) {ks : List Call} {l : List Answer} {c : Board} → Ran shape (holding write (changedLine ours) 50 memory2) ks l c → Ran shape start (opening write ks) (six l) c
 ran-opening write r =
     does-map-first then does-map-second memory1 memory1-fits then does-attach-own memory2 memory2-fits then does-attach-shared memory2 memory2-fits write
     then does-attach-other memory2 memory2-fits write then does-save-fifty memory2 memory2-fits write memory2-first then r
@@ -360,7 +360,7 @@ example1 = record {
 }
 
 -- the board at the end of run A's first parts
-after-opening : after shape start (opening false []) ≡ holding false (changedLine ours) 50 memory2
+pub after-opening : after shape start (opening false []) ≡ holding false (changedLine ours) 50 memory2
 after-opening = ran-after (ran-opening false ended)
 
 after-pushing : after shape start (pushing []) ≡ holding false (changedLine others) 7 memory3

@@ -25,7 +25,7 @@ use Rattle.reach.specs.Reach.{wayByHome, wayBy, wayOf, unreached, mayWrite}
 use Rattle.visits.specs.Visits.{visitedAll}
 use Rattle.visits.specs.declared.Visit.the-variants.{Map}
 use Rattle.machine.specs.Boards.{Board, board, noTag}
-use Rattle.machine.specs.Refusals.{byTable, alignedTo, isMapped}
+use Rattle.machine.specs.Refusals.{byTable, tooLarge, alignedTo, isMapped}
 use Rattle.machine.specs.Accesses.{performedOn, accessedBy, accessed, userTable, userAccess}
 use Rattle.machine.specs.Calls as calls
 use Rattle.machine.specs.Calls.{mapPage, mapped}
@@ -100,13 +100,13 @@ module _ (slots r c m : List ℕ) (x : Long slots r c m) where
     does-store : lineAt r lastPlace ≡ noLine → lineAt missedRecords lastPlace ≡ missed
         → Does shape (untagged slots pageWord r c m) (save lastProcess 4 0x7FFFFFFC 50) (answer 0 0 0)
         (untagged slots pageWord (putLine missedRecords lastPlace (changedLine missed)) (stored missedCache (lineBytes * lastPlace + 12) 4 50) m)
-    unfolding lowestFrom lowestFrame mappedTo homeBy homeOf holdsLine holdsAt holderFrom holderOf filled noted inserted performedAt wayByHome wayBy wayOf unreached mayWrite byTable alignedTo performedOn accessedBy accessed userTable userAccess step
+    unfolding lowestFrom lowestFrame mappedTo homeBy homeOf holdsLine holdsAt holderFrom holderOf filled noted inserted performedAt wayByHome wayBy wayOf unreached mayWrite byTable tooLarge alignedTo performedOn accessedBy accessed userTable userAccess step
     does-store h g = record { does = rw (fits, attached, h, none-written shape lastPlace r c m h, g) }
 
     does-load : lineAt r lastPlace ≡ changedLine missed
         → Does shape (untagged slots pageWord r c m) (load lastProcess 0x7FFFFFFF) (answer 0 (number c (lineBytes * lastPlace + 15) 1) 1)
         (untagged slots pageWord r c m)
-    unfolding holdsLine holdsAt holderFrom holderOf performedAt wayBy wayOf unreached mayWrite byTable alignedTo performedOn accessedBy accessed userTable userAccess step
+    unfolding holdsLine holdsAt holderFrom holderOf performedAt wayBy wayOf unreached mayWrite byTable tooLarge alignedTo performedOn accessedBy accessed userTable userAccess step
     does-load h = record { does = rw (fits, attached, h) }
 
 -- ---- the lists of the run

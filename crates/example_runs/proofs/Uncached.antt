@@ -22,7 +22,7 @@ use Rattle.stores.specs.Stores.{writtenBack, filled, noted, inserted, performed
 use Rattle.reach.specs.Reach.{wayByHome, wayBy, wayOf, unreached, mayWrite}
 use Rattle.visits.specs.Visits.{visited, sweep, visitedAll}
 use Rattle.machine.specs.Boards.{Board, board, fitsBoard, noTag, Outcome, outcome, refused}
-use Rattle.machine.specs.Refusals.{byTable, alignedTo, isMapped}
+use Rattle.machine.specs.Refusals.{byTable, tooLarge, alignedTo, isMapped}
 use Rattle.machine.specs.Accesses.{performedOn, accessedBy, accessed, userTable, userAccess}
 use Rattle.machine.specs.Calls as calls
 use Rattle.promises.specs.Plain.{Plain, Given, given, plainUser, plainAttach, plainMap, plainAccess}
@@ -73,12 +73,12 @@ unfolding ones onesIn fitsShape byTable calls.attach supervise step
 does-attach = rw (length-zeros 16, memory-length)
 
 does-load : step ownShape attached load ≡ outcome (answer 0 (number cache 0 1) 0) held
-unfolding ones onesIn fitsShape lowestFrom lowestFrame mappedTo homeBy homeOf lineAt putLine holdsLine holdsAt holderFrom holderOf writtenBack filled noted inserted performedAt wayByHome wayBy wayOf unreached mayWrite byTable alignedTo performedOn accessedBy accessed userTable userAccess step
+unfolding ones onesIn fitsShape lowestFrom lowestFrame mappedTo homeBy homeOf lineAt putLine holdsLine holdsAt holderFrom holderOf writtenBack filled noted inserted performedAt wayByHome wayBy wayOf unreached mayWrite byTable tooLarge alignedTo performedOn accessedBy accessed userTable userAccess step
 does-load = rw (length-zeros 16, memory-length)
 
 -- the line is held, whatever U says
 does-hit : step otherShape held load ≡ outcome (answer 0 (number cache 0 1) 1) held
-unfolding ones onesIn fitsShape lineAt holdsLine holdsAt holderFrom holderOf performedAt wayBy wayOf unreached mayWrite byTable alignedTo performedOn accessedBy accessed userTable userAccess step
+unfolding ones onesIn fitsShape lineAt holdsLine holdsAt holderFrom holderOf performedAt wayBy wayOf unreached mayWrite byTable tooLarge alignedTo performedOn accessedBy accessed userTable userAccess step
 does-hit = rw (cache-length, memory-length)
 
 -- a run of one call, and of a call and others
@@ -107,12 +107,12 @@ unfolding ones onesIn fitsShape byTable plainAttach plainSupervise plainStep
 plain-attaches = rw memory-length
 
 plain-loads : plainStep ownShape (plain slots) load ≡ given 0 (number memory 0 1) (plain slots)
-unfolding ones onesIn fitsShape lowestFrom lowestFrame mappedTo byTable isMapped alignedTo calls.foundFrame plainAccess plainUser plainStep
+unfolding ones onesIn fitsShape lowestFrom lowestFrame mappedTo byTable isMapped tooLarge alignedTo calls.foundFrame plainAccess plainUser plainStep
 plain-loads = rw memory-length
 
 -- with the other U no frame is left for the page
 plain-misses : plainStep otherShape (plain slots) load ≡ given 8 0 (plain slots)
-unfolding ones onesIn fitsShape lowestFrom lowestFrame mappedTo byTable isMapped alignedTo plainUser plainStep
+unfolding ones onesIn fitsShape lowestFrom lowestFrame mappedTo byTable isMapped tooLarge alignedTo plainUser plainStep
 plain-misses = rw memory-length
 
 plain-after-last : (t : Shape) (p q : Plain) (k : Call) (v : ℕ) → plainStep t p k ≡ given 0 v q → plainBroughtAfter p (bring t k ∷ []) ≡ q

@@ -3,3 +3,4 @@ pub mod Copies
 pub mod Uncached
 pub mod Wrong
 pub mod Largest
+pub mod Values

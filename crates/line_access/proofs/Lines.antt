@@ -1,6 +1,6 @@
--- The alignment of an access, and an access to a line, return by return.
-use Prim.Native.Nat.{ℕ, _+_, _*_, _/_, _%_, _<_, _≤_}
-use mathlib.Core.Path.{_≡_, _∙_, sym, ap}
+-- Whether a value fits, the alignment of an access, and an access to a line, return by return.
+use Prim.Native.Nat.{ℕ, _+_, _*_, _/_, _%_, _^_, _<_, _≤_}
+use mathlib.Core.Path.{_≡_, _∙_, refl, sym, ap}
 use mathlib.Core.Bool.{Bool, true, false, not, _&&_}
 use mathlib.Core.List.{List, [], _∷_}
 use native.Mathlib.Nat.{div-one}
@@ -21,11 +21,30 @@ use Rattle.reach.specs.declared.Way.{Way}
 use Rattle.reach.specs.declared.Way.the-variants.{Held, InMemory, Missing}
 use Rattle.lines.proofs.OneBit.{one-pos}
 use Rattle.reach.proofs.Reach.{way-held}
-use Rattle.machine.specs.Refusals.{row, byTable, alignedTo}
+use Rattle.machine.specs.Refusals.{row, byTable, tooLarge, alignedTo}
 use Rattle.machine.specs.Accesses.{Reached, reached, stopped, reachedBy, performedOn, accessedBy, accessed, memoryAccess}
 use Rattle.line_access.specs.LineAccess.{lineAccess}
-use lib.Dec.{eqb}
-use borrow.Author.Tests.{ne-eqb}
+use lib.Dec.{eqb, leb}
+use borrow.Author.Tests.{eqb-true, ne-eqb, lt-leb}
+
+-- the value, width by width
+module _ (a : Access) where
+  pub large-one : a .width ≡ 1 → (a .store && leb 256 (a .value)) ≡ tooLarge a
+  unfolding tooLarge
+  large-one w = rw w
+
+  pub large-two : a .width ≡ 2 → (a .store && leb 65536 (a .value)) ≡ tooLarge a
+  unfolding tooLarge
+  large-two w = rw w
+
+  pub large-else : (a .width ≡ 1 → ⊥) → (a .width ≡ 2 → ⊥) → a .value < 2 ^ 32 → false ≡ tooLarge a
+  unfolding tooLarge
+  large-else n m h = rw (ne-eqb _ _ n, ne-eqb _ _ m) (go (a .store) (eqb (a .width) 4) refl)
+    where
+      go : (t f : Bool) → eqb (a .width) 4 ≡ f → false ≡ (t && (f && leb (256 ^ a .width) (a .value)))
+      go true true e = let w : a .width ≡ 4 = eqb-true _ _ e in rw (w, lt-leb _ _ h)
+      go true false e = refl
+      go false f e = refl
 
 -- alignment, width by width
 module _ (width at : ℕ) where

@@ -1,4 +1,5 @@
-// What user and supervisor accesses share: the alignment, an access to a line, hit or miss, and one past the cache.
+// What user and supervisor accesses share: whether the value fits, the alignment, an access to a line, hit or miss, and one
+// past the cache.
 ghost use mathlib.Core.Path.{_≡_};
 ghost use Prim.Native.Nat.{_+_, _*_, _%_, _≤_};
 ghost use lib.ListN.{length};
@@ -6,7 +7,7 @@ ghost use Rattle.address.specs.Layout.{lineBytes};
 ghost use Rattle.line_bytes.specs.Premises.{Width};
 ghost use Rattle.stores.specs.Premises.{Sized};
 ghost use Rattle.stores.specs.Lent.{storeBefore, storeAfter};
-ghost use Rattle.machine.specs.Refusals.{alignedTo};
+ghost use Rattle.machine.specs.Refusals.{tooLarge, alignedTo};
 ghost use Rattle.machine.specs.Accesses.{ended, performedOn, memoryAccess};
 ghost use Rattle.line_access.specs.LineAccess.{lineAccess};
 use address::Effective;
@@ -18,6 +19,20 @@ use board::Shape;
 use board::numbered;
 use reach::Way;
 use stores::Access;
+
+// A store's value is 256^width or more. Four bytes take every value that a caller can bring; for a bad width the value isn't
+// asked, and of a load never.
+pub fn too_large(a: Access) -> bool
+    ensures { λ r. ⌜ r ≡ tooLarge a ⌝ }
+{
+    if a.width == 1 {
+        return a.store & (a.value >= 256);
+    }
+    if a.width == 2 {
+        return a.store & (a.value >= 65536);
+    }
+    false
+}
 
 // The width is 1, 2 or 4, and the number a multiple of it.
 fn aligned(width: u32, at: u64) -> bool

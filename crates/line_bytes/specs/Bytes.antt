@@ -10,12 +10,12 @@ unfoldable pub number : List ℕ → ℕ → ℕ → ℕ
 number bytes at zero = 0
 number bytes at (suc n) = number bytes at n * 256 + getD bytes (at + n) 0
 
--- the low `width` bytes of a value, the most significant first
+-- the bytes of a value below 256^width, `width` of them, the most significant first (any other value has been refused by row 2)
 unfoldable pub digits : ℕ → ℕ → List ℕ
 digits zero value = []
 digits (suc n) value = value / 256 ^ n % 256 ∷ digits n value
 
--- bytes with the low `width` bytes of a value from `at` on
+-- bytes with those of a value from `at` on
 unfoldable pub stored : List ℕ → ℕ → ℕ → ℕ → List ℕ
 stored bytes at width value = splice bytes at (digits width value)
 

@@ -11,11 +11,11 @@ use Rattle.lines.specs.Holds.{holdsLine, holdsAt, holderFrom, holderOf}
 use Rattle.stores.specs.Stores.{writtenBack, filled, noted, inserted, performedAt}
 use Rattle.reach.specs.Reach.{wayByHome, wayBy, wayOf, unreached, mayWrite}
 use lib.Count.{ones, onesIn}
-use Rattle.machine.specs.Refusals.{byTable, alignedTo}
+use Rattle.machine.specs.Refusals.{byTable, tooLarge, alignedTo}
 use Rattle.machine.specs.Accesses.{performedOn, accessedBy, accessed, userTable, userAccess}
 use Rattle.machine.specs.Calls.{attach}
 use Rattle.machine.specs.Numbers.{numbersToCheck, all, NumbersHold}
 
 pub numbers-hold : NumbersHold
-unfolding regionOf askedEntry entryNumber entryValue part splice fitsShape lowestFrom lowestFrame mappedTo freeFrame directHome homeBy homeOf number digits stored lineOf withLine lineAt putLine holdsLine holdsAt holderFrom holderOf writtenBack filled noted inserted performedAt wayByHome wayBy wayOf unreached mayWrite ones onesIn byTable alignedTo performedOn accessedBy accessed userTable userAccess attach numbersToCheck all
+unfolding regionOf askedEntry entryNumber entryValue part splice fitsShape lowestFrom lowestFrame mappedTo freeFrame directHome homeBy homeOf number digits stored lineOf withLine lineAt putLine holdsLine holdsAt holderFrom holderOf writtenBack filled noted inserted performedAt wayByHome wayBy wayOf unreached mayWrite ones onesIn byTable tooLarge alignedTo performedOn accessedBy accessed userTable userAccess attach numbersToCheck all
 numbers-hold = refl

@@ -1,6 +1,6 @@
 -- 01, "Calls": user access and supervisor access.
 use Prim.Native.Nat.{ℕ, _%_}
-use mathlib.Core.Bool.{not, _&&_, cond}
+use mathlib.Core.Bool.{not, _&&_, _||_, cond}
 use mathlib.Core.List.{List, [], _∷_, _++_}
 use lib.ListN.{getD}
 use Rattle.address.specs.Layout.{lineBytes}
@@ -23,7 +23,7 @@ use Rattle.stores.specs.declared.Access.{Access}
 use Rattle.reach.specs.declared.Way.{Way}
 use Rattle.reach.specs.declared.Way.the-variants.{Held, InMemory, Missing}
 use Rattle.machine.specs.Boards.{ways, Board, Outcome, outcome, refused, withStore}
-use Rattle.machine.specs.Refusals.{Row, row, byTable, row1, isProcess, isGlobal, alignedTo, slotRows, lineRows, wordInUse, isOrdinary, isCached, outside}
+use Rattle.machine.specs.Refusals.{Row, row, byTable, row1, isProcess, isGlobal, tooLarge, alignedTo, slotRows, lineRows, wordInUse, isOrdinary, isCached, outside}
 
 -- ---- an access to a line
 
@@ -80,7 +80,7 @@ userGlobal slots process e = globalOf (slotSegment (slotWordAt slots process e))
 -- numbers 2 to 7
 abbrev pub userRows : Shape → List ℕ → Pending → ℕ → Access → Effective → List Row
 userRows s slots tag process a e =
-    row 2 (not (isProcess s process)) ∷ row 3 (tag .set) ∷ row 4 (not (alignedTo (a .width) (e .0))) ∷ row 5 (isKernels e)
+    row 2 (not (isProcess s process) || tooLarge a) ∷ row 3 (tag .set) ∷ row 4 (not (alignedTo (a .width) (e .0))) ∷ row 5 (isKernels e)
     ∷ slotRows (slotWordAt slots process e) a
 
 unfoldable pub userTable : Shape → Board → ℕ → Access → Effective → List Row
@@ -101,7 +101,7 @@ frameUnder g = frameOfPhysical (physicalOf g)
 
 unfoldable pub supervisorTable : Shape → Board → Access → Global → List Row
 supervisorTable s b a g =
-    row1 s b ∷ row 2 (not (isGlobal g)) ∷ row 3 (isOrdinary (regionOf g) && b .tag .set) ∷ row 4 (not (alignedTo (a .width) (g .0)))
+    row1 s b ∷ row 2 (not (isGlobal g) || tooLarge a) ∷ row 3 (isOrdinary (regionOf g) && b .tag .set) ∷ row 4 (not (alignedTo (a .width) (g .0)))
     ∷ row 8 (isOrdinary (regionOf g) && unreached (wayTo s (b .words) (b .store .records) g))
     ∷ row 10 (isCached (regionOf g) && wordInUse (b .words) (frameUnder g))
     ∷ row 12 (outside s (frameUnder g) (regionOf g)) ∷ []

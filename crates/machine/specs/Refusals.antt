@@ -1,5 +1,5 @@
 -- 01, "Refusal numbers": what each row asks, in the table's order. A call's table is a list of rows, by rising number.
-use Prim.Native.Nat.{ℕ, _*_, _%_}
+use Prim.Native.Nat.{ℕ, _*_, _%_, _^_}
 use mathlib.Core.Bool.{Bool, true, false, not, _&&_, _||_, cond}
 use mathlib.Core.List.{List, [], _∷_}
 use lib.ListN.{getD}
@@ -40,7 +40,8 @@ lowest rows = byTable (λ n. n) rows 0
 abbrev pub row1 : Shape → Board → Row
 row1 s b = row 1 (not (fitsBoard s b))
 
--- 2: process, slot, segment, frame (below U or from F up), physical line, line name or page outside its range; global address from 2^44 up.
+-- 2: process, slot, segment, frame (below U or from F up), physical line, line name or page outside its range; global address from 2^44 up;
+-- value of a store 256^width or more.
 -- These are the ranges; `attachable` and `ordinaryPage` are those of segments and pages, `hasEntry` that of pages whose entry is asked.
 abbrev pub isProcess : Shape → ℕ → Bool
 isProcess s process = ltb process (s .processes)
@@ -60,6 +61,14 @@ isName name = ordinaryPage (pageOfName name)
 abbrev pub isGlobal : Global → Bool
 isGlobal g = ltb (g .0) globalEnd
 
+-- the widths that an access may have
+abbrev pub isWidth : ℕ → Bool
+isWidth width = eqb width 1 || (eqb width 2 || eqb width 4)
+
+-- a store whose value is 256^width or more. For a bad width this isn't asked (4 stands), and of a load never
+unfoldable pub tooLarge : Access → Bool
+tooLarge a = a .store && (isWidth (a .width) && leb (256 ^ a .width) (a .value))
+
 -- 3 asks whether a tag is pending: `tag .set`. Of supervisor accesses only those to an ordinary address are asked
 unfoldable pub isOrdinary : Region → Bool
 isOrdinary Uncached = false
@@ -69,7 +78,7 @@ isOrdinary Ordinary = true
 
 -- 4: width not 1, 2 or 4, or address no multiple of it
 unfoldable pub alignedTo : ℕ → ℕ → Bool
-alignedTo width at = (eqb width 1 || (eqb width 2 || eqb width 4)) && eqb (at % width) 0
+alignedTo width at = isWidth width && eqb (at % width) 0
 
 -- 5: user address from 2^31 up: `isKernels`
 

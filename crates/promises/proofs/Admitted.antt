@@ -14,10 +14,10 @@ use Rattle.address.specs.declared.Effective.{Effective}
 use Rattle.slots.specs.Slots.{slotIndex, slotSegment, slotWrites, slotEmpty}
 use Rattle.pages.specs.Pages.{wordWrites, mappedTo}
 use Rattle.board.specs.declared.Shape.{Shape}
-use Rattle.board.proofs.Bools.{clash, or-left, or-right}
+use Rattle.board.proofs.Bools.{and-rest, or-left, or-right, or-false}
 use Rattle.board.proofs.Shapes.{Shaped}
 use Rattle.stores.specs.declared.Access.{Access}
-use Rattle.machine.specs.Refusals.{row, alignedTo}
+use Rattle.machine.specs.Refusals.{row, isProcess, alignedTo}
 use Rattle.machine.specs.Accesses.{slotWordAt, userGlobal, userRows}
 use Rattle.machine.proofs.Tables.{Passed}
 use Rattle.machine.proofs.Alignments.{aligned-inside}
@@ -38,10 +38,6 @@ some-slot test slots process i (suc n) h e = go (eqb i n) refl (λ lt. some-slot
         → (test (getD slots (slotIndex process n) 0) || someSlot test slots process n) ≡ true
     go true t later = let q : i ≡ n = eqb-true i n t in or-left (test (getD slots (slotIndex process n) 0)) (someSlot test slots process n) (rw q at e)
     go false t later = let q = eqb-false i n t in or-right (test (getD slots (slotIndex process n) 0)) (someSlot test slots process n) (later (omega arith))
-
-and-rest : (a b : Bool) → a ≡ true → (a && b) ≡ false → b ≡ false
-and-rest true b e h = h
-and-rest false b e h = clash false e refl
 
 -- no row of a user access applies
 abbrev pub UserPassed : Shape → Plain → ℕ → Access → Effective → Type 0
@@ -66,7 +62,7 @@ admitted s p process a e h =
     let k = leb-false kernelStart (e .0) (h 4) in
     record {
       facts = plain-shaped s p (h 0);
-      process-low = ltb-true process (s .processes) (not-false _ (h 1));
+      process-low = ltb-true process (s .processes) (not-false _ (or-false (not (isProcess s process)) _ (h 1) .0));
       slot-low = omega arith;
       not-empty = h 5;
       may-write = λ st. not-false (slotWrites (slotWordAt (p .slots) process e)) (and-rest (a .store) (not (slotWrites (slotWordAt (p .slots) process e))) st (h 6));

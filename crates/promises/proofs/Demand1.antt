@@ -60,7 +60,7 @@ rising-from (r ∷ rows) from k h e =
     go false q e later = omega (arith, later e, leb-true from (r .number) (and-left (leb from (r .number)) _ h))
 
 -- what a rising table gives: what is done, if no row applies; else the refusal of the lowest row that applies
-data Tabled {A : Type 0} (refuse : ℕ → A) (from : ℕ) (rows : List Row) (done : A) : A → Type 0 where
+pub data Tabled {A : Type 0} (refuse : ℕ → A) (from : ℕ) (rows : List Row) (done : A) : A → Type 0 where
   passed : ((k : ℕ) → appliesIn rows k ≡ false) → Passed rows → Tabled refuse from rows done done
   stopped : (n : ℕ) → from ≤ n → appliesIn rows n ≡ true → ((k : ℕ) → appliesIn rows k ≡ true → n ≤ k) → Tabled refuse from rows done (refuse n)
 
@@ -83,7 +83,7 @@ module _ {A : Type 0} (refuse : ℕ → A) (done : A) where
       low : (k : ℕ) → (eqb (r .number) k || appliesIn rows k) ≡ true → r .number ≤ k
       low k q = go k (eqb (r .number) k) refl q
 
-  tabled : (from : ℕ) (rows : List Row) → rising from rows ≡ true → Tabled refuse from rows done (byTable refuse rows done)
+  pub tabled : (from : ℕ) (rows : List Row) → rising from rows ≡ true → Tabled refuse from rows done (byTable refuse rows done)
   unfolding byTable rising appliesIn
   tabled from [] h = passed (λ k. refl) (λ i. refl)
   tabled from (r ∷ rows) h = go (r .applies) refl (tabled (suc (r .number)) rows up)

@@ -22,3 +22,4 @@ pub mod Brought
 -- what a change request promises beside them
 pub mod Entries
 pub mod Limits
+pub mod Values

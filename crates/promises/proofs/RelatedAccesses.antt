@@ -21,13 +21,13 @@ use Rattle.board.specs.declared.Shape.{Shape}
 use Rattle.board.specs.declared.Found.{Found}
 use Rattle.board.specs.declared.Found.the-variants.{At, Nothing}
 use Rattle.board.specs.declared.Home.the-variants.{Line}
-use Rattle.board.proofs.Bools.{and-left, and-right}
+use Rattle.board.proofs.Bools.{and-left, and-right, or-false}
 use Rattle.line_bytes.specs.Bytes.{number, stored}
 use Rattle.stores.specs.Stores.{store}
 use Rattle.reach.specs.Reach.{unreached, mayWrite}
 use Rattle.stores.specs.declared.Access.{Access}
 use Rattle.machine.specs.Boards.{Board, fitsBoard, Outcome, refused, withStore}
-use Rattle.machine.specs.Refusals.{Row, row, byTable, row1, lineRows, isMapped, isOrdinary, isCached, isGlobal, wordInUse, alignedTo, outside}
+use Rattle.machine.specs.Refusals.{Row, row, byTable, row1, lineRows, isMapped, isOrdinary, isCached, isGlobal, tooLarge, wordInUse, alignedTo, outside}
 use Rattle.machine.specs.Accesses.{Reached, onBoard, wayTo, accessed, userRows, userTable, userGlobal, slotWordAt, userAccess, frameUnder, memoryAccess, supervisorTable, supervisorDone, supervisorAccess}
 use Rattle.machine.specs.Calls.{foundFrame}
 use Rattle.machine.proofs.Tables.{table-append}
@@ -161,7 +161,7 @@ module _ (s : Shape) (b : Board) (m : List ℕ) (fits : fitsBoard s b ≡ true) 
   pub related-supervisor : (a : Access) (g : Global) → Related s (supervisorAccess s b a g) (plainSupervisor s (plainOf b m) a g)
   unfolding supervisorAccess supervisorTable plainSupervisor
   related-supervisor a g =
-      let rows = row1 s b ∷ row 2 (not (isGlobal g)) ∷ row 3 (isOrdinary (regionOf g) && b .tag .set) ∷ row 4 (not (alignedTo (a .width) (g .0))) ∷ [] in
+      let rows = row1 s b ∷ row 2 (not (isGlobal g) || tooLarge a) ∷ row 3 (isOrdinary (regionOf g) && b .tag .set) ∷ row 4 (not (alignedTo (a .width) (g .0))) ∷ [] in
       related-by s _ _ _ _
       (table-append (refused b) rows (boardRows g (regionOf g)) (onBoard b (supervisorDone s (b .words) a g (b .store) (regionOf g))))
       (rw (lengths-same s b m x)
@@ -169,4 +169,4 @@ module _ (s : Shape) (b : Board) (m : List ℕ) (fits : fitsBoard s b ≡ true) 
       (related-table s b m x rows _ _
       (λ k.
       let l = aligned-inside (a .width) (g .0) (not-false _ (k 3)) in
-      related-region g a (l .inside) (ltb-true _ _ (not-false _ (k 1))) (regionOf g) refl))
+      related-region g a (l .inside) (ltb-true _ _ (not-false _ (or-false (not (isGlobal g)) _ (k 1) .0))) (regionOf g) refl))

@@ -7,3 +7,4 @@ pub mod Demand3
 pub mod Brought
 pub mod Entries
 pub mod Limits
+pub mod Values

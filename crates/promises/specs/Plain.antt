@@ -1,8 +1,8 @@
 -- The plain machine: segment slots, a page map, a pending tag and flat memory, and no cache.
 -- Slot words, frame words, the tag, numbers in bytes and the tests of single rows are the board's own definitions.
--- What an access asks and does, and what map, unmap, protect, flush all and load-and-map leave, is written here from 01's text.
+-- What an access asks and does, and what map, unmap, protect, flush all and load-and-map leave, is written here from the text of 01 and CR 2.
 use Prim.Native.Nat.{ℕ}
-use mathlib.Core.Bool.{Bool, not, _&&_, cond}
+use mathlib.Core.Bool.{Bool, not, _&&_, _||_, cond}
 use mathlib.Core.List.{List, [], _∷_}
 use lib.ListN.{length, getD, set}
 use Rattle.address.specs.Addresses.{physical, slotOf, globalOf, pageOf, regionOf, physicalOf, inFrame, isKernels, attachable}
@@ -19,7 +19,7 @@ use Rattle.board.specs.declared.Pending.{Pending}
 use Rattle.line_bytes.specs.Bytes.{number, stored, lineOf, zeroedFrame}
 use Rattle.stores.specs.declared.Access.{Access}
 use Rattle.machine.specs.Boards.{noTag, tagged}
-use Rattle.machine.specs.Refusals.{Row, row, byTable, lowest, isProcess, isSlot, isPhysicalLine, isName, isGlobal, isOrdinary, isCached, isMapped, wordInUse, alignedTo, outside}
+use Rattle.machine.specs.Refusals.{Row, row, byTable, lowest, isProcess, isSlot, isPhysicalLine, isName, isGlobal, tooLarge, isOrdinary, isCached, isMapped, wordInUse, alignedTo, outside}
 use Rattle.machine.specs.Accesses.{frameUnder}
 use Rattle.machine.specs.Calls.{foundFrame, mapRows, pageRows, loadRows}
 
@@ -97,7 +97,7 @@ unfoldable pub plainUser : Shape → Plain → ℕ → Access → Effective → 
 plainUser s p process a e =
     byTable (plainRefused p)
     (plainRow1 s p
-    ∷ row 2 (not (isProcess s process))
+    ∷ row 2 (not (isProcess s process) || tooLarge a)
     ∷ row 3 (p .tag .set)
     ∷ row 4 (not (alignedTo (a .width) (e .0)))
     ∷ row 5 (isKernels e)
@@ -118,7 +118,7 @@ supervisorAt s p g Ordinary = addressAt s p g
 unfoldable pub plainSupervisor : Shape → Plain → Access → Global → Given
 plainSupervisor s p a g =
     byTable (plainRefused p)
-    (plainRow1 s p ∷ row 2 (not (isGlobal g)) ∷ row 3 (isOrdinary (regionOf g) && p .tag .set) ∷ row 4 (not (alignedTo (a .width) (g .0)))
+    (plainRow1 s p ∷ row 2 (not (isGlobal g) || tooLarge a) ∷ row 3 (isOrdinary (regionOf g) && p .tag .set) ∷ row 4 (not (alignedTo (a .width) (g .0)))
     ∷ row 8 (isOrdinary (regionOf g) && not (addressMapped s p g))
     ∷ row 10 (isCached (regionOf g) && wordInUse (p .words) (frameUnder g))
     ∷ row 12 (outside s (frameUnder g) (regionOf g)) ∷ [])

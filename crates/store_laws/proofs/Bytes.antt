@@ -1,10 +1,11 @@
 -- Bytes stored and copied, read back one by one; numbers in them; and lines by their bytes.
 -- Stands on the list laws of `board`; every file here takes its byte laws from this one.
-use Prim.Native.Nat.{ℕ, suc, zero, _+_, _*_, _≤_, _<_}
+use Prim.Native.Nat.{ℕ, suc, zero, _+_, _*_, _/_, _%_, _^_, _≤_, _<_}
 use mathlib.Core.Logic.{_≢_}
 use mathlib.Core.Path.{_≡_, refl, sym, ap, _∙_}
 use mathlib.Core.Bool.{Bool, true, false}
 use mathlib.Core.List.{List, [], _∷_}
+use native.Mathlib.Nat.{pow-suc, div-one, div-eq-of-lt, div-div-eq-div-mul}
 use native.Mathlib.Omega.{arith}
 use lib.Dec.{eqb}
 use lib.ListN.{length, getD, set, length-set, length-take, length-drop}
@@ -75,6 +76,26 @@ length-digits (suc n) v = ap suc (length-digits n v)
 pub stored-out : (l : List ℕ) (at w v x : ℕ) → (at ≤ x → x < at + w → ⊥) → getD (stored l at w v) x 0 ≡ getD l x 0
 unfolding stored
 stored-out l at w v x h = splice-out l at (digits w v) x (λ a b. h a (omega (arith, length-digits w v)))
+
+-- byte n of a value's bytes, if d bytes follow it
+digits-at : (w n d v : ℕ) → n + suc d ≡ w → getD (digits w v) n 0 ≡ v / 256 ^ d % 256
+unfolding digits
+digits-at zero n d v e = absurd (omega arith)
+digits-at (suc w) zero d v e = let z : d ≡ w = omega arith in rw z
+digits-at (suc w) (suc n) d v e = digits-at w n d v (omega arith)
+
+-- a value that fits, stored and read again: whole, by its first n bytes
+module _ (l : List ℕ) (at w v : ℕ) (fits : v < 256 ^ w) (inside : at + w ≤ length l) where
+  number-first : (n d : ℕ) → n + d ≡ w → number (stored l at w v) at n ≡ v / 256 ^ d
+  unfolding number stored
+  number-first zero d e = let z : d ≡ w = omega arith in rw z (sym (div-eq-of-lt fits))
+  number-first (suc n) d e =
+      let a : number (stored l at w v) at n ≡ v / 256 ^ d / 256 = number-first n (suc d) (omega arith) ∙ rw pow-suc (sym (div-div-eq-div-mul v (256 ^ d) 256)) in
+      let b = splice-in l at (digits w v) n (at + n) refl (omega (arith, length-digits w v)) (omega arith) ∙ digits-at w n d v (omega arith) in
+      rw (a, b) (omega arith)
+
+  pub number-stored : number (stored l at w v) at w ≡ v
+  number-stored = number-first w 0 (omega arith) ∙ div-one v
 
 -- ---- parts
 

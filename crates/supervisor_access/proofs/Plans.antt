@@ -1,7 +1,7 @@
 -- Where a supervisor access goes, return by return, and what a plan that goes on says.
 use Prim.Native.Nat.{ℕ, _+_, _%_, _^_, _<_, _≤_}
 use mathlib.Core.Path.{_≡_, _∙_, sym, ap}
-use mathlib.Core.Bool.{Bool, true, false, not, _&&_}
+use mathlib.Core.Bool.{Bool, true, false, not, _&&_, _||_}
 use mathlib.Core.List.{List, []}
 use native.Mathlib.Omega.{arith}
 use lib.ListN.{length, getD, List·getD-eq-default}
@@ -17,7 +17,7 @@ use Rattle.board.specs.declared.Shape.{Shape}
 use Rattle.board.specs.declared.Pending.{Pending}
 use Rattle.line_bytes.specs.Premises.{Width}
 use Rattle.stores.specs.declared.Access.{Access}
-use Rattle.machine.specs.Refusals.{byTable, isGlobal, alignedTo, wordInUse, isCached, outside}
+use Rattle.machine.specs.Refusals.{byTable, isGlobal, tooLarge, alignedTo, wordInUse, isCached, outside}
 use Rattle.machine.specs.Accesses.{frameUnder}
 use Rattle.machine.proofs.Tables.{table-passed, table-end}
 use Rattle.supervisor_access.specs.Plans.{target, regionPlan, waits, supervisorPlan}
@@ -86,19 +86,24 @@ module _ (s : Shape) (words : List ℕ) (tag : Pending) (a : Access) (g : Global
   unfolding supervisorPlan byTable
   plan-beyond h = rw (le-ltb _ _ h)
 
-  module _ (h : g .0 < globalEnd) (region : Region) (e : region ≡ regionOf g) (w : Bool) (f : w ≡ waits tag region) where
-    pub plan-waits : w ≡ true → Stop 3 ≡ supervisorPlan s words tag a g
+  module _ (h : g .0 < globalEnd) (large : Bool) (v : large ≡ tooLarge a) where
+    pub plan-value : large ≡ true → Stop 2 ≡ supervisorPlan s words tag a g
     unfolding supervisorPlan byTable
-    plan-waits t = rw (lt-ltb _ _ h, ← e, ← f, t)
+    plan-value n = rw (lt-ltb _ _ h, ← v, n)
 
-    module _ (al : Bool) (i : al ≡ alignedTo (a .width) (g .0)) (t : w ≡ false) where
-      pub plan-unaligned : al ≡ false → Stop 4 ≡ supervisorPlan s words tag a g
+    module _ (n : large ≡ false) (region : Region) (e : region ≡ regionOf g) (w : Bool) (f : w ≡ waits tag region) where
+      pub plan-waits : w ≡ true → Stop 3 ≡ supervisorPlan s words tag a g
       unfolding supervisorPlan byTable
-      plan-unaligned j = rw (lt-ltb _ _ h, ← e, ← f, t, ← i, j)
+      plan-waits t = rw (lt-ltb _ _ h, ← v, n, ← e, ← f, t)
 
-      pub plan-region : (k : Plan) → al ≡ true → k ≡ regionPlan s words g region → k ≡ supervisorPlan s words tag a g
-      unfolding supervisorPlan byTable
-      plan-region k j l = l ∙ rw (lt-ltb _ _ h, ← e, ← f, t, ← i, j)
+      module _ (al : Bool) (i : al ≡ alignedTo (a .width) (g .0)) (t : w ≡ false) where
+        pub plan-unaligned : al ≡ false → Stop 4 ≡ supervisorPlan s words tag a g
+        unfolding supervisorPlan byTable
+        plan-unaligned j = rw (lt-ltb _ _ h, ← v, n, ← e, ← f, t, ← i, j)
+
+        pub plan-region : (k : Plan) → al ≡ true → k ≡ regionPlan s words g region → k ≡ supervisorPlan s words tag a g
+        unfolding supervisorPlan byTable
+        plan-region k j l = l ∙ rw (lt-ltb _ _ h, ← v, n, ← e, ← f, t, ← i, j)
 
 -- what a plan that goes on says
 line-unstopped : (h : Global) (n : ℕ) → Stop n ≡ Line h → ⊥
@@ -136,7 +141,7 @@ module _ (s : Shape) (words : List ℕ) (tag : Pending) (a : Access) (g : Global
       → (alignedTo (a .width) (g .0) ≡ true) × (regionPlan s words g (regionOf g) ≡ x)
   unfolding supervisorPlan
   plan-passed x other k =
-      let k₂ = table-passed Stop 2 (not (isGlobal g)) _ _ x (other 2) k in
+      let k₂ = table-passed Stop 2 (not (isGlobal g) || tooLarge a) _ _ x (other 2) k in
       let k₃ = table-passed Stop 3 (waits tag (regionOf g)) _ _ x (other 3) (k₂ .1) in
       let k₄ = table-passed Stop 4 (not (alignedTo (a .width) (g .0))) [] _ x (other 4) (k₃ .1) in
       (not-false (alignedTo (a .width) (g .0)) (k₄ .0), table-end Stop _ _ (k₄ .1))

@@ -1,7 +1,7 @@
 -- A supervisor access: the plan carried to the access's table, region by region, and return by return.
 use Prim.Native.Nat.{ℕ}
 use mathlib.Core.Path.{_≡_, _∙_, refl, sym, ap}
-use mathlib.Core.Bool.{Bool, true, false, not, _&&_, cond}
+use mathlib.Core.Bool.{Bool, true, false, not, _&&_, _||_, cond}
 use mathlib.Core.List.{List, [], _∷_}
 use lib.ListN.{length}
 use lib.Dec.{leb}
@@ -19,7 +19,7 @@ use Rattle.reach.specs.Reach.{unreached, mayWrite}
 use Rattle.stores.specs.Stores.{store}
 use Rattle.stores.specs.declared.Access.{Access}
 use Rattle.machine.specs.Boards.{Board, board, Outcome, outcome, refused}
-use Rattle.machine.specs.Refusals.{Row, row, byTable, alignedTo, isGlobal, wordInUse, isOrdinary, isCached, outside}
+use Rattle.machine.specs.Refusals.{Row, row, byTable, tooLarge, alignedTo, isGlobal, wordInUse, isOrdinary, isCached, outside}
 use Rattle.machine.specs.Accesses.{reached, stopped, wayTo, accessed, onBoard, frameUnder, memoryAccess, supervisorTable, supervisorDone, supervisorAccess}
 use Rattle.machine.proofs.Tables.{table-map}
 use Rattle.machine.proofs.Prefixes.{region-cached, prefix-reached}
@@ -92,14 +92,14 @@ module _ (s : Shape) (b : Board) (a : Access) (g : Global) where
 
   planned-rows : planned s b a (supervisorPlan s (b .words) (b .tag) a g)
       ≡ byTable (refused b)
-      (row 2 (not (isGlobal g)) ∷ row 3 (isOrdinary (regionOf g) && b .tag .set) ∷ row 4 (not (alignedTo (a .width) (g .0))) ∷ regionRows (regionOf g))
+      (row 2 (not (isGlobal g) || tooLarge a) ∷ row 3 (isOrdinary (regionOf g) && b .tag .set) ∷ row 4 (not (alignedTo (a .width) (g .0))) ∷ regionRows (regionOf g))
       (regionDone (regionOf g))
   unfolding supervisorPlan waits byTable planned
   planned-rows =
       table-map (planned s b a) Stop
-      (row 2 (not (isGlobal g)) ∷ row 3 (isOrdinary (regionOf g) && b .tag .set) ∷ row 4 (not (alignedTo (a .width) (g .0))) ∷ [])
+      (row 2 (not (isGlobal g) || tooLarge a) ∷ row 3 (isOrdinary (regionOf g) && b .tag .set) ∷ row 4 (not (alignedTo (a .width) (g .0))) ∷ [])
       (regionPlan s (b .words) g (regionOf g))
-      ∙ ap (byTable (refused b) (row 2 (not (isGlobal g)) ∷ row 3 (isOrdinary (regionOf g) && b .tag .set) ∷ row 4 (not (alignedTo (a .width) (g .0))) ∷ []))
+      ∙ ap (byTable (refused b) (row 2 (not (isGlobal g) || tooLarge a) ∷ row 3 (isOrdinary (regionOf g) && b .tag .set) ∷ row 4 (not (alignedTo (a .width) (g .0))) ∷ []))
       (rows-region (regionOf g) refl)
 
 module _ (s : Shape) (slots words r c m : List ℕ) (tag : Pending) (a : Access) (g : Global) (t : Bool)

@@ -1,6 +1,6 @@
 -- What the code of a supervisor access decides before it touches a line or memory: a number, or where to go on.
 use Prim.Native.Nat.{ℕ}
-use mathlib.Core.Bool.{Bool, not, _&&_}
+use mathlib.Core.Bool.{Bool, not, _&&_, _||_}
 use mathlib.Core.List.{List, [], _∷_}
 use Rattle.address.specs.Addresses.{regionOf, physicalOf}
 use Rattle.address.specs.declared.Global.{Global}
@@ -9,7 +9,7 @@ use Rattle.address.specs.declared.Region.the-variants.{Uncached, Cached, PageTa
 use Rattle.board.specs.declared.Shape.{Shape}
 use Rattle.board.specs.declared.Pending.{Pending}
 use Rattle.stores.specs.declared.Access.{Access}
-use Rattle.machine.specs.Refusals.{row, byTable, isGlobal, alignedTo, wordInUse, isOrdinary, isCached, outside}
+use Rattle.machine.specs.Refusals.{row, byTable, isGlobal, tooLarge, alignedTo, wordInUse, isOrdinary, isCached, outside}
 use Rattle.machine.specs.Accesses.{frameUnder}
 use Rattle.supervisor_access.specs.declared.Plan.{Plan}
 use Rattle.supervisor_access.specs.declared.Plan.the-variants.{Stop, Line, Memory}
@@ -36,5 +36,5 @@ waits tag region = isOrdinary region && tag .set
 unfoldable pub supervisorPlan : Shape → List ℕ → Pending → Access → Global → Plan
 supervisorPlan s words tag a g =
     byTable Stop
-    (row 2 (not (isGlobal g)) ∷ row 3 (waits tag (regionOf g)) ∷ row 4 (not (alignedTo (a .width) (g .0))) ∷ [])
+    (row 2 (not (isGlobal g) || tooLarge a) ∷ row 3 (waits tag (regionOf g)) ∷ row 4 (not (alignedTo (a .width) (g .0))) ∷ [])
     (regionPlan s words g (regionOf g))

@@ -70,7 +70,8 @@ fn must_wait(tag: Pending, region: Region) -> bool
     }
 }
 
-// Numbers 2, 3, 4, 10 and 12 of a supervisor access, or where it goes.
+// Numbers 2, 3, 4, 10 and 12 of a supervisor access, or where it goes. The value is asked next to the width,
+// as of users.
 fn supervisor_plan(s: Shape, words: &[u64], tag: Pending, a: Access, g: Global) -> Plan
     requires { ⌜ length (now words) ≡ s .frames ⌝ }
     ensures { λ r. ⌜ r ≡ supervisorPlan s (now (words .entry)) tag a g ⌝ }
@@ -80,7 +81,13 @@ fn supervisor_plan(s: Shape, words: &[u64], tag: Pending, a: Access, g: Global) 
     }
     let region = g.region();
     if must_wait(tag, region) {
+        if line_access::too_large(a) {
+            return Plan::Stop(2);
+        }
         return Plan::Stop(3);
+    }
+    if line_access::too_large(a) {
+        return Plan::Stop(2);
     }
     if line_access::global_aligned(a.width, g) {
         return region_plan(s, words, g, region);

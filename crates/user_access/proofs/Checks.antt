@@ -18,10 +18,10 @@ use Rattle.board.proofs.Bools.{and-right, or-false}
 use Rattle.line_bytes.specs.Premises.{Width}
 use Rattle.stores.specs.declared.Access.{Access}
 use Rattle.machine.proofs.Alignments.{Aligned, aligned-inside}
-use Rattle.machine.specs.Refusals.{byTable, isProcess, alignedTo}
+use Rattle.machine.specs.Refusals.{byTable, isProcess, tooLarge, alignedTo}
 use Rattle.machine.specs.Accesses.{slotWordAt, userGlobal}
 use Rattle.machine.proofs.Tables.{table-passed, table-end}
-use Rattle.user_access.specs.Checks.{slotCheck, userCheck}
+use Rattle.user_access.specs.Checks.{refusedBy, slotCheck, userCheck}
 use Rattle.user_access.specs.declared.Check.{Check}
 use Rattle.user_access.specs.declared.Check.the-variants.{Refuse, Go}
 
@@ -43,6 +43,16 @@ module _ (word : ℕ) (a : Access) (e : Effective) (t : Bool) (f : t ≡ attacha
   unfolding slotCheck byTable
   slot-goes g h k i = rw (← f, h, k, i)
 
+-- refused by another number, or by 2
+module _ (n : ℕ) (a : Access) (large : Bool) (v : large ≡ tooLarge a) where
+  pub refuse-value : large ≡ true → Refuse 2 ≡ refusedBy n a
+  unfolding refusedBy byTable
+  refuse-value h = rw (← v, h)
+
+  pub refuse-other : large ≡ false → Refuse n ≡ refusedBy n a
+  unfolding refusedBy byTable
+  refuse-other h = rw (← v, h)
+
 -- a process that is not refused, and no tag pending
 pub process-below : (processes process : ℕ) (set : Bool) → (leb processes process || set) ≡ false → process < processes
 process-below processes process set o = leb-false processes process (or-false (leb processes process) set o .0)
@@ -58,9 +68,9 @@ module _ (s : Shape) (slots : List ℕ) (tag : Pending) (process : ℕ) (a : Acc
   unfolding userCheck byTable
   check-process h = rw (le-ltb _ _ h)
 
-  pub check-tag : (leb (s .processes) process || tag .set) ≡ true → process < s .processes → Refuse 3 ≡ userCheck s slots tag process a e
-  unfolding userCheck byTable
-  check-tag h p = let t : tag .set ≡ true = rw (lt-leb _ _ p) at h in rw (lt-ltb _ _ p, t)
+  pub check-tag : (c : Check) → (leb (s .processes) process || tag .set) ≡ true → process < s .processes → c ≡ refusedBy 3 a → c ≡ userCheck s slots tag process a e
+  unfolding userCheck refusedBy byTable
+  check-tag c h p k = let t : tag .set ≡ true = rw (lt-leb _ _ p) at h in k ∙ rw (lt-ltb _ _ p, t)
 
   module _ (o : (leb (s .processes) process || tag .set) ≡ false) where
     p : process < s .processes
@@ -70,19 +80,23 @@ module _ (s : Shape) (slots : List ℕ) (tag : Pending) (process : ℕ) (a : Acc
     t = or-false (leb (s .processes) process) (tag .set) o .1
 
     module _ (al : Bool) (f : al ≡ alignedTo (a .width) (e .0)) where
-      pub check-aligned : al ≡ false → Refuse 4 ≡ userCheck s slots tag process a e
-      unfolding userCheck byTable
-      check-aligned h = rw (lt-ltb _ _ p, t, ← f, h)
+      pub check-aligned : (c : Check) → al ≡ false → c ≡ refusedBy 4 a → c ≡ userCheck s slots tag process a e
+      unfolding userCheck refusedBy byTable
+      check-aligned c h k = k ∙ rw (lt-ltb _ _ p, t, ← f, h)
 
-      module _ (h : al ≡ true) (k : Bool) (i : k ≡ isKernels e) where
+      pub check-value : (large : Bool) → large ≡ tooLarge a → large ≡ true → Refuse 2 ≡ userCheck s slots tag process a e
+      unfolding userCheck byTable
+      check-value large v h = rw (lt-ltb _ _ p, ← v, h)
+
+      module _ (h : al ≡ true) (large : Bool) (v : large ≡ tooLarge a) (n : large ≡ false) (k : Bool) (i : k ≡ isKernels e) where
         pub check-kernels : k ≡ true → Refuse 5 ≡ userCheck s slots tag process a e
         unfolding userCheck byTable
-        check-kernels j = rw (lt-ltb _ _ p, t, ← f, h, ← i, j)
+        check-kernels j = rw (lt-ltb _ _ p, ← v, n, t, ← f, h, ← i, j)
 
         pub check-slot : (slot : ℕ) (c : Check) → k ≡ false → slot ≡ slotOf e → c ≡ slotCheck (getD slots (process * processSlots + slot) 0) a e
             → c ≡ userCheck s slots tag process a e
         unfolding userCheck slotCheck byTable
-        check-slot slot c j l m = m ∙ rw (l, lt-ltb _ _ p, t, ← f, h, ← i, j)
+        check-slot slot c j l m = m ∙ rw (l, lt-ltb _ _ p, ← v, n, t, ← f, h, ← i, j)
 
 -- what a passed check says
 module _ (s : Shape) (slots : List ℕ) (tag : Pending) (process : ℕ) (a : Access) (e : Effective) where
@@ -93,7 +107,7 @@ module _ (s : Shape) (slots : List ℕ) (tag : Pending) (process : ℕ) (a : Acc
   unfolding userCheck
   passed-aligned g k =
       let word = slotWordAt slots process e in
-      let k₂ = table-passed Refuse 2 (not (isProcess s process)) _ _ (Go g) (no-refusal g 2) k in
+      let k₂ = table-passed Refuse 2 (not (isProcess s process) || tooLarge a) _ _ (Go g) (no-refusal g 2) k in
       let k₃ = table-passed Refuse 3 (tag .set) _ _ (Go g) (no-refusal g 3) (k₂ .1) in
       let k₄ = table-passed Refuse 4 (not (alignedTo (a .width) (e .0))) _ _ (Go g) (no-refusal g 4) (k₃ .1) in
       let k₅ = table-passed Refuse 5 (isKernels e) _ _ (Go g) (no-refusal g 5) (k₄ .1) in

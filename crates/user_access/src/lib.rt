@@ -5,7 +5,7 @@ ghost use lib.ListN.{length};
 ghost use Rattle.address.specs.Layout.{processSlots};
 ghost use Rattle.board.specs.Shapes.{maxProcesses};
 ghost use Rattle.machine.specs.Contracts.{before, after, UserAccess};
-ghost use Rattle.user_access.specs.Checks.{slotCheck, userCheck};
+ghost use Rattle.user_access.specs.Checks.{refusedBy, slotCheck, userCheck};
 use address::Effective;
 use address::Global;
 use board::Answer;
@@ -35,7 +35,18 @@ fn slot_check(word: u32, a: Access, e: Effective) -> Check
     Check::Refuse(6)
 }
 
-// Numbers 2 to 7 of a user access, or the global address.
+// Refuses by `n`, or by 2, which is lower, if the value is too large.
+fn refuse(n: u32, a: Access) -> Check
+    ensures { λ r. ⌜ r ≡ refusedBy n a ⌝ }
+{
+    if line_access::too_large(a) {
+        return Check::Refuse(2);
+    }
+    Check::Refuse(n)
+}
+
+// Numbers 2 to 7 of a user access, or the global address. The value is asked next to the width, so that the two make one choice
+// by width once compiled: four bytes cost as much as without it.
 fn user_check(
     s: Shape,
     slots: &[u32],
@@ -51,15 +62,18 @@ fn user_check(
         if process >= s.processes {
             return Check::Refuse(2);
         }
-        return Check::Refuse(3);
+        return refuse(3, a);
     }
     if line_access::effective_aligned(a.width, e) {
+        if line_access::too_large(a) {
+            return Check::Refuse(2);
+        }
         if e.is_kernels() {
             return Check::Refuse(5);
         }
         return slot_check(slots[process * PROCESS_SLOTS + e.slot()], a, e);
     }
-    Check::Refuse(4)
+    refuse(4, a)
 }
 
 // A user's load or store.

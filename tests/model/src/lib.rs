@@ -1,5 +1,6 @@
-//! An executable model of 01 (the scope document) and of the readings of it in docs/DECISIONS.md, written from those two
-//! alone. A test oracle: clear and exact, not fast. Quotations are 01's; "decided" marks a reading.
+//! An executable model of 01 (the scope document), of the change requests to it and of the readings in docs/DECISIONS.md,
+//! written from those alone. A test oracle: clear and exact, not fast. Quotations are 01's, or a request's where it is named;
+//! "decided" marks a reading.
 //!
 //! * [`Board`]  the machine with its cache. [`Board::step`] also gives the [`Event`] for coverage.
 //! * [`Plain`]  the machine without a cache.
@@ -130,9 +131,19 @@ pub fn name_in_range(name: u64) -> bool {
     page_in_range(page_of_name(name))
 }
 
+fn is_width(width: u32) -> bool {
+    matches!(width, 1 | 2 | 4)
+}
+
 /// Number 4: "width not 1, 2 or 4, or address no multiple of it".
 pub fn width_refused(width: u32, address: u64) -> bool {
-    !(matches!(width, 1 | 2 | 4) && address % u64::from(width) == 0)
+    !(is_width(width) && address % u64::from(width) == 0)
+}
+
+/// CR 2: "a store whose value is 256^width or more is refused with 2. For a bad width this isn't asked and 4 stands."
+/// Decided: an address that is no multiple of the width doesn't excuse the value.
+pub fn value_refused(store: bool, width: u32, value: u32) -> bool {
+    store && is_width(width) && u64::from(value) >= 256u64.pow(width)
 }
 
 // ---------------------------------------------------------------------------------------------
@@ -220,10 +231,12 @@ fn load_bytes(bytes: &[u8]) -> u32 {
     bytes.iter().fold(0, |n, &b| (n << 8) | u32::from(b))
 }
 
-/// "A store takes the low bits of its value"; most significant byte first.
+/// The value's bytes, most significant first. Asked only with a value that fits.
 fn store_bytes(bytes: &mut [u8], value: u32) {
     let all = value.to_be_bytes();
-    bytes.copy_from_slice(&all[4 - bytes.len()..]);
+    let (above, own) = all.split_at(4 - bytes.len());
+    assert!(above.iter().all(|&byte| byte == 0), "number 2 has been asked");
+    bytes.copy_from_slice(own);
 }
 
 /// Does the load or the store on `width` bytes from `at`; the value is 0 for a store.
@@ -652,7 +665,7 @@ impl Board {
     /// write bit and the page's must both allow a store."
     fn do_user_access(&mut self, process: u64, store: bool, width: u32, address: u32, value: u32) -> Outcome {
         ask(1, !self.fits())?;
-        ask(2, process >= self.shape.processes)?;
+        ask(2, process >= self.shape.processes || value_refused(store, width, value))?;
         // "Number 3 doesn't ask whether the line is held".
         ask(3, self.tag.0)?;
         ask(4, width_refused(width, u64::from(address)))?;
@@ -679,7 +692,7 @@ impl Board {
     /// prefix 1."
     fn do_supervisor_access(&mut self, store: bool, width: u32, global: u64, value: u32) -> Outcome {
         ask(1, !self.fits())?;
-        ask(2, global >= GLOBAL_END)?;
+        ask(2, global >= GLOBAL_END || value_refused(store, width, value))?;
         let kind = kind_of(global);
         // Decided: page table addresses are not ordinary; prefix 0 and 1 don't ask for the tag.
         ask(3, self.tag.0 && kind == Kind::Ordinary)?;
@@ -896,7 +909,7 @@ impl Plain {
         let Shape { frames, uncached, processes, .. } = self.shape;
         match *call {
             Call::UserAccess { process, store, width, address, value } => {
-                ask(2, process >= processes)?;
+                ask(2, process >= processes || value_refused(store, width, value))?;
                 ask(3, self.tag.0)?;
                 ask(4, width_refused(width, u64::from(address)))?;
                 ask(5, address >= USER_END)?;
@@ -910,7 +923,7 @@ impl Plain {
                 Ok(transfer(&mut self.memory, at, store, width, value))
             }
             Call::SupervisorAccess { store, width, global, value } => {
-                ask(2, global >= GLOBAL_END)?;
+                ask(2, global >= GLOBAL_END || value_refused(store, width, value))?;
                 let kind = kind_of(global);
                 ask(3, self.tag.0 && kind == Kind::Ordinary)?;
                 ask(4, width_refused(width, global))?;

@@ -70,7 +70,7 @@ fn access(r: &mut Rng, at: u64) -> (u32, u64) {
 }
 
 fn call(r: &mut Rng, b: &Board) -> Call {
-    let (store, value) = (r.flip(), r.next() as u32);
+    let store = r.flip();
     // A pending tag stops most accesses: settle it soon.
     if b.tag.0 && r.chance(2) {
         return if r.chance(5) {
@@ -88,7 +88,7 @@ fn call(r: &mut Rng, b: &Board) -> Call {
                 at = r.next() % (1 << 32);
             }
             let (width, at) = access(r, at);
-            Call::UserAccess { process, store, width, address: at as u32, value }
+            Call::UserAccess { process, store, width, address: at as u32, value: r.value(width) }
         }
         45..=69 => {
             let base = match r.below(10) {
@@ -99,7 +99,7 @@ fn call(r: &mut Rng, b: &Board) -> Call {
             };
             let at = base + within(r);
             let (width, at) = access(r, at);
-            Call::SupervisorAccess { store, width, global: at, value }
+            Call::SupervisorAccess { store, width, global: at, value: r.value(width) }
         }
         70..=75 => {
             let segment = if r.chance(20) { r.pick(&[0, 2047, 4_190_208, u64::MAX]) } else { r.pick(&SEGMENTS) };

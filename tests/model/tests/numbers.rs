@@ -101,6 +101,39 @@ fn width_4_at_2() {
     }
 }
 
+/// CR 2: "A caller stored 300 with width 1 and got 44." What a width holds, at both ends, and widths that are none: for a
+/// user's store and a supervisor's, and for loads with the same values.
+#[test]
+fn values_and_widths() {
+    let calls = |store, width, value| {
+        let supervisor = |global| Call::SupervisorAccess { store, width, global, value };
+        let user = Call::UserAccess { process: 0, store, width, address: 4, value };
+        [user, supervisor(0x2_0000_0004), supervisor(0x1_0000_2004), supervisor(4)]
+    };
+    let largest = [(1, Some(255)), (2, Some(65_535)), (4, Some(u32::MAX))];
+    let none = [0, 3, 5, 8, u32::MAX].map(|width| (width, None));
+    for (width, largest) in largest.into_iter().chain(none) {
+        for value in [0, 1, 44, 255, 256, 300, 65_535, 65_536, 1 << 24, u32::MAX] {
+            let (loaded, stored) = match largest {
+                Some(largest) => (0, if value <= largest { 0 } else { 2 }),
+                None => (4, 4),
+            };
+            for (store, load) in calls(true, width, value).iter().zip(&calls(false, width, value)) {
+                let mut b = ready();
+                let mut plain = Plain::of(&b);
+                let first = b.clone().step(load).0;
+                assert_eq!(first.number, loaded, "{load:?}");
+                assert_eq!(b.step(store).0, no(stored), "{store:?}");
+                assert_eq!(plain.step(store), PlainAnswer { number: stored, value: 0 }, "{store:?}");
+                // Loaded back, the value is whole, or what was there before.
+                let (now, last) = (b.step(load).0, plain.step(load));
+                assert_eq!(now.value, if stored == 0 { value } else { first.value }, "{store:?}");
+                assert_eq!((last.number, last.value), (now.number, now.value), "{store:?}");
+            }
+        }
+    }
+}
+
 #[test]
 fn line_counts() {
     // "01's case L = 65,536 becomes taken and 131,072 gives 1."

