@@ -36,10 +36,10 @@ use Rattle.store_laws.proofs.Steps.{written-records, written-cache, length-writ
 use Rattle.store_laws.proofs.Sweeps.{swept-cache}
 
 -- a store with lists as long as another's
-record SameSizes (x y : Store) : Type 0 where
-  records : length (y .records) ≡ length (x .records)
-  cache : length (y .cache) ≡ length (x .cache)
-  memory : length (y .memory) ≡ length (x .memory)
+pub record SameSizes (x y : Store) : Type 0 where
+  pub records : length (y .records) ≡ length (x .records)
+  pub cache : length (y .cache) ≡ length (x .cache)
+  pub memory : length (y .memory) ≡ length (x .memory)
 
 sizes-refl : (x : Store) → SameSizes x x
 sizes-refl x = record { records = refl; cache = refl; memory = refl }
@@ -63,7 +63,7 @@ module _ (s : Shape) where
   unfolding noted
   sizes-noted i l x = record { records = length-put _ _ _; cache = refl; memory = refl }
 
-  sizes-inserted : (i name line : ℕ) (write : Bool) (x : Store) → SameSizes x (inserted ways s i name line write x)
+  pub sizes-inserted : (i name line : ℕ) (write : Bool) (x : Store) → SameSizes x (inserted ways s i name line write x)
   unfolding inserted
   sizes-inserted i name line write x =
       sizes-trans x (writtenBack ways s i x) _ (sizes-written i x)
@@ -99,7 +99,7 @@ module _ (s : Shape) where
         sizes-trans x (inserted ways s _ name line write x) _ (sizes-inserted _ name line write x) (sizes-performed a _ offset 0 _)
     sizes-accessed-by name offset Missing = sizes-refl x
 
-    sizes-accessed : (words : List ℕ) (g : Global) → SameSizes x (accessed s words g a x .after)
+    pub sizes-accessed : (words : List ℕ) (g : Global) → SameSizes x (accessed s words g a x .after)
     unfolding accessed
     sizes-accessed words g = sizes-accessed-by _ _ _
 
@@ -107,7 +107,7 @@ module _ (s : Shape) where
     unfolding memoryAccess
     sizes-memory p = cond-both (λ (r : Reached). SameSizes x (r .after)) (a .store) _ _ (record { records = refl; cache = refl; memory = length-stored _ _ _ _ }) (sizes-refl x)
 
-    sizes-supervisor : (words : List ℕ) (g : Global) (r : Region) → SameSizes x (supervisorDone s words a g x r .after)
+    pub sizes-supervisor : (words : List ℕ) (g : Global) (r : Region) → SameSizes x (supervisorDone s words a g x r .after)
     unfolding supervisorDone
     sizes-supervisor words g Uncached = sizes-memory _
     sizes-supervisor words g Cached = sizes-accessed words g
@@ -115,7 +115,7 @@ module _ (s : Shape) where
     sizes-supervisor words g Ordinary = sizes-accessed words g
 
 -- a board with lists as long as another's
-record SameLengths (b c : Board) : Type 0 where
+pub record SameLengths (b c : Board) : Type 0 where
   slots : length (c .slots) ≡ length (b .slots)
   words : length (c .words) ≡ length (b .words)
   store : SameSizes (b .store) (c .store)
@@ -123,7 +123,7 @@ record SameLengths (b c : Board) : Type 0 where
 lengths-refl : (b : Board) → SameLengths b b
 lengths-refl b = record { slots = refl; words = refl; store = sizes-refl (b .store) }
 
-lengths-fit : (s : Shape) (b c : Board) → SameLengths b c → fitsBoard s c ≡ fitsBoard s b
+pub lengths-fit : (s : Shape) (b c : Board) → SameLengths b c → fitsBoard s c ≡ fitsBoard s b
 lengths-fit s b c l = rw (l .slots, l .words, l .store .records, l .store .cache, l .store .memory)
 
 -- what a table gives has the lengths of the board if what is done has
@@ -131,7 +131,7 @@ module _ (s : Shape) (b : Board) where
   lengths-table : (rows : List Row) (d : Outcome) → SameLengths b (d .after) → SameLengths b (byTable (refused b) rows d .after)
   lengths-table rows d l = table-cases (λ (o : Outcome). SameLengths b (o .after)) (refused b) (λ n. lengths-refl b) rows d (λ _. l)
 
-  lengths-store : (x : Store) → SameSizes (b .store) x → SameLengths b (withStore b x)
+  pub lengths-store : (x : Store) → SameSizes (b .store) x → SameLengths b (withStore b x)
   lengths-store x z = record { slots = refl; words = refl; store = z }
 
   lengths-slots : (i v : ℕ) → SameLengths b (withSlots b (set (b .slots) i v))

@@ -22,4 +22,5 @@ pub mod Brought
 -- what a change request promises beside them
 pub mod Entries
 pub mod Limits
+pub mod Kept
 pub mod Values

@@ -3,14 +3,13 @@
 use Prim.Native.Nat.{ℕ, _^_, _≤_}
 use mathlib.Core.Path.{_≡_}
 use mathlib.Core.Bool.{Bool, true, false, not}
-use mathlib.Core.List.{List}
 use Rattle.address.specs.declared.Effective.{Effective}
 use Rattle.address.specs.declared.Global.{Global}
 use Rattle.board.specs.declared.Shape.{Shape}
 use Rattle.stores.specs.declared.Access.{Access}
-use Rattle.machine.specs.Boards.{Board, Fresh, fitsBoard, refused}
+use Rattle.machine.specs.Boards.{Board, fitsBoard, refused}
 use Rattle.machine.specs.Refusals.{isProcess, isGlobal, isWidth}
-use Rattle.promises.specs.Runs.{access, Call, user, supervisor, step, after, reply}
+use Rattle.promises.specs.Runs.{access, Call, user, supervisor, step, reply}
 
 -- who asks, and where: a process by effective address, or the supervisor by global address
 pub data Asker : Type 0 where
@@ -49,7 +48,6 @@ pub record ValuesFit : Type 0 where
       → step s b (asks x (storing width v)) ≡ step s b (asks x (storing width w))
   -- a load's value never is
   pub loads : (s : Shape) (b : Board) (x : Asker) (width v w : ℕ) → step s b (asks x (loading width v)) ≡ step s b (asks x (loading width w))
-  -- after any run from a fresh board: a value that was stored is loaded whole by the next call, of the same asker, address and width
-  pub whole : (s : Shape) (b : Board) → Fresh b → (ks : List Call) (x : Asker) (width value v : ℕ)
-      → step s (after s b ks) (asks x (storing width value)) .answer .number ≡ 0
-      → reply (step s (step s (after s b ks) (asks x (storing width value)) .after) (asks x (loading width v)) .answer) ≡ record { number = 0; value = value }
+  -- on any board: a value that was stored is loaded whole by the next call, of the same asker, address and width
+  pub whole : (s : Shape) (b : Board) (x : Asker) (width value v : ℕ) → step s b (asks x (storing width value)) .answer .number ≡ 0
+      → reply (step s (step s b (asks x (storing width value)) .after) (asks x (loading width v)) .answer) ≡ record { number = 0; value = value }
