@@ -216,8 +216,8 @@ OALEDVA_ASSERT(oaledva_pending_layout, sizeof(oaledva_pending) == 16, "oaledva_p
  * significant first. The tag goes in by value. Refused by 1 to 9.
  * A store whose value does not fit its width is refused by 2, whatever the address is, also where it is no multiple of the
  * width or a tag is pending. With a width that is not 1, 2 or 4 the value is not asked, and a load ignores it. A value has 32
- * bits: of a longer number C passes the low 32 only, so that one is not refused for what is cut; of a negative one it makes a
- * large value, which fits width 4 alone. To store the low byte of a number, pass number & 0xff. */
+ * bits. C cuts a longer number to its low 32 before the call sees it, so the call can't refuse it; a negative number becomes a
+ * large value, which fits width 4 only. To store the low byte of a number, pass number & 0xff. */
 OALEDVA_MUST_USE oaledva_answer oaledva_user_access(
     OALEDVA_SHAPE_ARGS,
     const uint32_t *slots, size_t slots_length,

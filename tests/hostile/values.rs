@@ -1,5 +1,5 @@
 //! Values at the ends of what the widths hold, and past them, in stores beside every other number that could be given; with
-//! widths that are none too; and in loads, whose value isn't asked. By every route, on fresh boards and on wild ones. They are
+//! widths that are none too; and in loads, whose value isn't asked (two routes bring one). On fresh boards and on wild ones. They are
 //! counted in every run; the planned runs below reach them all, and nothing else is counted there.
 
 use crate::coverage::{Coverage, Planned};

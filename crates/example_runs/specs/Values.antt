@@ -20,7 +20,7 @@ abbrev pub saveByte : ℕ → ℕ → Call
 saveByte at value = supervisor (access (storing 1 value) (global at))
 
 -- the opening of `Examples` leaves 50 in the first four bytes of process 0's page. Then process 0
---   stores 300 at 3 with width 1, then 256 there; 65,536 at 2 with width 2; and 65,536 at 1, where the address is no multiple of 2 either
+--   stores 300 at 3 with width 1, then 256 there; 65,536 at 2 with width 2; and 65,536 at 1, which is misaligned too
 --   stores 300 at 3 with width 3, and 1 with width 0; and loads the byte at 3, with 300 as the value of the load
 --   keeps the largest value of each width: 255, 65,535 and 2^32 - 1
 -- and the supervisor stores 255 in the byte at 3 of that page and in the first byte of memory (prefix 0), then 256 in these, in the first byte of

@@ -15,7 +15,7 @@ unfoldable pub digits : ℕ → ℕ → List ℕ
 digits zero value = []
 digits (suc n) value = value / 256 ^ n % 256 ∷ digits n value
 
--- bytes with those of a value from `at` on
+-- bytes with the `width` bytes of a value put from `at` on
 unfoldable pub stored : List ℕ → ℕ → ℕ → ℕ → List ℕ
 stored bytes at width value = splice bytes at (digits width value)
 

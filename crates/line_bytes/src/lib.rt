@@ -36,7 +36,7 @@ pub fn load_bytes(bytes: &[u8], at: usize, width: u32) -> u32
     pair(bytes, at) * 65536 + pair(bytes, at + 2)
 }
 
-// Puts the bytes of a value below 256^width, the most significant first.
+// Puts the bytes of a value below 256^width (number 2 has refused any other), the most significant first.
 pub fn store_bytes(bytes: &mut [u8], at: usize, width: u32, value: u32)
     requires { ⌜ (at + width ≤ length (now bytes)) × Width width ⌝ }
     ensures { λ _. ⌜ now (bytes .exit) ≡ stored (now (bytes .entry)) at width value ⌝ }

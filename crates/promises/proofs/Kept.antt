@@ -1,5 +1,5 @@
--- A value that was stored is read back whole by the next access to the same place, on any board: the record that holds the line then still does.
--- Stands on the laws of holders, Steps (a write-back) and Lengths.
+-- A value that was stored is read back whole by a load of the same width and address as the next call, on any board: after a store the line's record
+-- holds it; under prefix 0 memory has the bytes. Stands on the laws of holders, Steps (a write-back), Lengths and Demand1 (what a rising table gives).
 use Prim.Native.Nat.{ℕ, _+_, _*_, _%_, _^_, _≤_, _<_}
 use mathlib.Core.Path.{_≡_, _∙_, refl, sym}
 use mathlib.Core.Bool.{Bool, true, false, not, _&&_, _||_}

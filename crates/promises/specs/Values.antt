@@ -46,7 +46,7 @@ pub record ValuesFit : Type 0 where
   -- and the value isn't asked: on any board the outcome is the same for every value
   pub bad-width : (s : Shape) (b : Board) (x : Asker) (width v w : ℕ) → isWidth width ≡ false
       → step s b (asks x (storing width v)) ≡ step s b (asks x (storing width w))
-  -- a load's value never is
+  -- a load's value is never asked
   pub loads : (s : Shape) (b : Board) (x : Asker) (width v w : ℕ) → step s b (asks x (loading width v)) ≡ step s b (asks x (loading width w))
   -- on any board: a value that was stored is loaded whole by the next call, of the same asker, address and width
   pub whole : (s : Shape) (b : Board) (x : Asker) (width value v : ℕ) → step s b (asks x (storing width value)) .answer .number ≡ 0

@@ -71,7 +71,7 @@ fn must_wait(tag: Pending, region: Region) -> bool
 }
 
 // Numbers 2, 3, 4, 10 and 12 of a supervisor access, or where it goes. The value is asked next to the width,
-// as of users.
+// as in a user access, and before number 3 is given.
 fn supervisor_plan(s: Shape, words: &[u64], tag: Pending, a: Access, g: Global) -> Plan
     requires { ⌜ length (now words) ≡ s .frames ⌝ }
     ensures { λ r. ⌜ r ≡ supervisorPlan s (now (words .entry)) tag a g ⌝ }

@@ -46,7 +46,7 @@ fn refuse(n: u32, a: Access) -> Check
 }
 
 // Numbers 2 to 7 of a user access, or the global address. The value is asked next to the width, so that the two make one choice
-// by width once compiled: four bytes cost as much as without it.
+// by width once compiled: a hit of four bytes costs no more than without it.
 fn user_check(
     s: Shape,
     slots: &[u32],
