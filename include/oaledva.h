@@ -125,26 +125,54 @@ enum {
     OALEDVA_OTHER_LINE = 13      /* load-and-map: not the physical line to which the tag is mapped */
 };
 
+/* ---- marks: how an access went. An access that is done has one of 1 to 4; a refused one has 0, and so has every call that
+ * is no access, even where it reads lines from memory or writes them back. A mark is no yes or no: compare it with a name. */
+enum {
+    OALEDVA_NO_ACCESS = 0,  /* the call was refused, or it is no access (map, attach, load-and-map and the like) */
+    OALEDVA_HIT = 1,        /* the line was held when the access came: the cache had it, and memory was not touched */
+    OALEDVA_REFILLED = 2,   /* the line was not held, and was read from memory; nothing was written back */
+    OALEDVA_WROTE_BACK = 3, /* the line was not held, and was read from memory; in that call a changed line was written back
+                               to memory to make room */
+    OALEDVA_UNCACHED = 4    /* a supervisor's access under prefix 0: memory itself, past the cache */
+};
+
 /* ---- answers
- * What a call gives: number * 2^33 + mark * 2^32 + value, as one number in a type of its own. Nothing compares it, converts
- * it or tests it by mistake; the functions below take it apart. Only calls make one. The mark is 1 where an access found its
- * line held. The compiler warns of a call whose answer is thrown away; to do so on purpose, write if (oaledva_done(...)) {}. */
+ * What a call gives, as one number in a type of its own: number * 2^56 + mark * 2^32 + value. The value has bits 0 to 31, the
+ * mark 32 to 39, the number 56 to 63; the sixteen between are 0, and left to a later library. Nothing compares an answer,
+ * converts it or tests it by mistake; the functions below take it apart. Only calls make one. The compiler warns of a call
+ * whose answer is thrown away; to do so on purpose, write if (oaledva_done(...)) {}.
+ *
+ * A program of before, when a mark was 1 for a hit and else 0, has to change in two things. Where it asked oaledva_mark as a
+ * yes or no it asks oaledva_hit: every access that is done has a mark that is not 0 now, and oaledva_mark gives a type of its
+ * own, so that the old way doesn't compile. And it must be compiled again, even if it never asks a mark: the number stands at
+ * another bit. With the old header and this library it would take a refilled access for one refused by 1; with this header and
+ * the old library, a refused call for one that is done. */
 typedef struct OALEDVA_MUST_USE_TYPE oaledva_answer {
     uint64_t packed;
 } oaledva_answer;
 
-#define OALEDVA_NUMBER_AT 33
+#define OALEDVA_NUMBER_AT 56
 #define OALEDVA_MARK_AT 32
+#define OALEDVA_MARK_MASK 0xff
+
+/* The mark of an answer, in a type of its own: it is no answer, and no yes or no. */
+typedef struct OALEDVA_MUST_USE_TYPE oaledva_marked {
+    uint32_t mark;
+} oaledva_marked;
 
 OALEDVA_MUST_USE static inline uint32_t oaledva_number(oaledva_answer answer) {
     return (uint32_t)(answer.packed >> OALEDVA_NUMBER_AT);
 }
-OALEDVA_MUST_USE static inline uint32_t oaledva_mark(oaledva_answer answer) {
-    return (uint32_t)(answer.packed >> OALEDVA_MARK_AT) & 1;
+/* Compare it by its number: oaledva_mark(a).mark == OALEDVA_REFILLED, or switch (oaledva_mark(a).mark). */
+OALEDVA_MUST_USE static inline oaledva_marked oaledva_mark(oaledva_answer answer) {
+    const oaledva_marked marked = {(uint32_t)(answer.packed >> OALEDVA_MARK_AT) & OALEDVA_MARK_MASK};
+    return marked;
 }
 OALEDVA_MUST_USE static inline uint32_t oaledva_value(oaledva_answer answer) { return (uint32_t)answer.packed; }
 /* 1 where the call was done (number 0), 0 where it was refused. */
 OALEDVA_MUST_USE static inline int oaledva_done(oaledva_answer answer) { return oaledva_number(answer) == 0; }
+/* 1 where the call was an access that found its line held (mark OALEDVA_HIT), else 0. */
+OALEDVA_MUST_USE static inline int oaledva_hit(oaledva_answer answer) { return oaledva_mark(answer).mark == OALEDVA_HIT; }
 
 /* Where look's bytes stand in the caller's own buffers: an offset in cache, or OALEDVA_IN_MEMORY + an offset in memory;
  * OALEDVA_NOWHERE where look was refused. It is no answer. */
@@ -213,7 +241,7 @@ OALEDVA_ASSERT(oaledva_pending_layout, sizeof(oaledva_pending) == 16, "oaledva_p
 
 /* ---- accesses
  * A user's load or store: process, kind, width in bytes (1, 2 or 4), effective address, the value to store. Bytes stand most
- * significant first. The tag goes in by value. Refused by 1 to 9.
+ * significant first. The tag goes in by value. Refused by 1 to 9; done, its mark is one of 1 to 3.
  * A store whose value does not fit its width is refused by 2, whatever the address is, also where it is no multiple of the
  * width or a tag is pending. With a width that is not 1, 2 or 4 the value is not asked, and a load ignores it. A value has 32
  * bits. C cuts a longer number to its low 32 before the call sees it, so the call can't refuse it; a negative number becomes a
@@ -230,7 +258,8 @@ OALEDVA_MUST_USE oaledva_answer oaledva_user_access(
 
 /* A supervisor's load or store by global address (below 2^44): ordinary; prefix 0, the physical address itself, uncached, in
  * frames below U; or prefix 1, 2^32 + the physical address, cached, in frames from U up whose word is 0. The page's write bit
- * is not asked. The value is asked as a user's is. Refused by 1 to 4, 8, 10 and 12. */
+ * is not asked. The value is asked as a user's is. Refused by 1 to 4, 8, 10 and 12; done, its mark is 4 under prefix 0, else
+ * one of 1 to 3. */
 OALEDVA_MUST_USE oaledva_answer oaledva_supervisor_access(
     OALEDVA_SHAPE_ARGS,
     const uint32_t *slots, size_t slots_length,

@@ -20,11 +20,11 @@ fn main() -> Result<(), Refusal> {
         |b| b.load(0, 1, 3),
         |b| b.store(0, 1, 3, 1).map(|()| 0),
     ];
-    println!("call answer value hit");
+    println!("call answer value hit"); // the scope document's words: the last is the mark, 1 for a hit
     for (i, call) in calls.iter().enumerate() {
         let answer = call(&mut board);
         let (number, value) = (answer.err().map_or(0, Refusal::number), answer.unwrap_or(0));
-        println!("{} {number} {value} {}", i + 1, u32::from(board.hit()));
+        println!("{} {number} {value} {}", i + 1, board.mark().number());
     }
     Ok(())
 }

@@ -11,7 +11,8 @@
 //! overlaps nothing else that is passed, and nobody else touches the buffers during the call. Nothing is asked of the
 //! numbers, the lengths or the contents: a wrong one gets its number.
 
-/// What a call gives: number × 2^33 + mark × 2^32 + value, as one number.
+/// What a call gives, as one number: number × 2^56 + mark × 2^32 + value. The value has bits 0 to 31, the mark 32 to 39, the
+/// number 56 to 63; the sixteen between are 0.
 #[derive(Clone, Copy, Debug, PartialEq, Eq)]
 #[must_use]
 #[repr(transparent)]
@@ -20,14 +21,18 @@ pub struct Answer {
 }
 
 impl Answer {
+    const NUMBER_AT: u32 = 56;
+    const MARK_AT: u32 = 32;
+    const MARK_MASK: u32 = 0xff;
+
     /// 0 for done, else why the call was refused.
     pub fn number(self) -> u32 {
-        (self.packed >> 33) as u32
+        (self.packed >> Self::NUMBER_AT) as u32
     }
 
-    /// Whether an access found its line held.
-    pub fn mark(self) -> bool {
-        self.packed >> 32 & 1 == 1
+    /// The number of a [`Mark`](crate::Mark): how an access went; 0 where the call was refused or is no access.
+    pub fn mark(self) -> u32 {
+        (self.packed >> Self::MARK_AT) as u32 & Self::MARK_MASK
     }
 
     /// What a load gives; else 0.

@@ -4,9 +4,12 @@
 compile_error!("the static library is for x86-64 Linux: build with --target x86_64-unknown-linux-gnu");
 
 pub mod ffi;
+mod mark;
+mod numbered;
 mod refusal;
 
 use ffi::{Answer, Kind, Pending, Permission, Stands};
+pub use mark::Mark;
 pub use refusal::Refusal;
 use std::ops::DerefMut;
 
@@ -79,7 +82,7 @@ pub struct Board<Slots = Vec<u32>, Words = Vec<u64>, Bytes = Vec<u8>> {
     cache: Bytes,
     memory: Bytes,
     pending: Option<u64>,
-    hit: bool,
+    mark: Mark,
 }
 
 /// Boards are equal if their numbers, buffers and tags are: the mark of the last call is no part of the board.
@@ -115,7 +118,7 @@ impl Board {
             cache: vec![0; shape.cache()],
             memory: vec![0; shape.memory()],
             pending: None,
-            hit: false,
+            mark: Mark::NoAccess,
         })
     }
 }
@@ -137,7 +140,7 @@ impl<'a> Lent<'a> {
         memory: &'a mut [u8],
         pending: Option<u64>,
     ) -> Lent<'a> {
-        Board { shape, slots, words, records, cache, memory, pending, hit: false }
+        Board { shape, slots, words, records, cache, memory, pending, mark: Mark::NoAccess }
     }
 }
 
@@ -284,9 +287,27 @@ where
         call!(self, as_ptr, oaledva_look_number(line)).number
     }
 
-    /// The mark of the last call but look: whether it was an access that found its line held.
+    /// The mark of the last call but look: how it went, if it was an access that was done. [`Mark::NoAccess`] before the first
+    /// call.
+    ///
+    /// ```
+    /// # use oaledva::{Board, Mark, Refusal, Shape};
+    /// # let mut board = Board::new(Shape { frames: 4, uncached: 1, processes: 2, lines: 2 })?;
+    /// # board.map(0x200000, 1, true)?;
+    /// # board.attach(0, 0, 2048, true)?;
+    /// board.store(0, 4, 0, 50)?;
+    /// assert_eq!(board.mark(), Mark::Refilled);
+    /// board.load(0, 4, 0)?;
+    /// assert_eq!(board.mark(), Mark::Hit);
+    /// # Ok::<(), Refusal>(())
+    /// ```
+    pub fn mark(&self) -> Mark {
+        self.mark
+    }
+
+    /// Whether the last call but look was an access that found its line held: short for `mark() == Mark::Hit`.
     pub fn hit(&self) -> bool {
-        self.hit
+        self.mark == Mark::Hit
     }
 
     /// The pending line name.
@@ -350,7 +371,7 @@ where
 
     /// Keeps an answer's mark, and gives its value or its refusal.
     fn answer(&mut self, answer: Answer) -> Result<u32, Refusal> {
-        self.hit = answer.mark();
+        self.mark = Mark::of(answer.mark());
         Refusal::of(answer.number()).map_or(Ok(answer.value()), Err)
     }
 

@@ -1,20 +1,10 @@
-use std::fmt;
+use crate::numbered::numbered;
 
-/// The refusals by rising number, each with its reason, which is its documentation too.
-macro_rules! refusals {
-    ($($name:ident = $number:literal, $reason:literal;)*) => {
-        /// Why a call was refused. A refused call changes nothing.
-        #[derive(Clone, Copy, Debug, PartialEq, Eq, Hash)]
-        #[repr(u32)]
-        pub enum Refusal {
-            $(#[doc = $reason] $name = $number,)*
-        }
-
-        const REASONS: &[(Refusal, &str)] = &[$((Refusal::$name, $reason)),*];
-    };
-}
-
-refusals! {
+numbered! {
+    /// Why a call was refused. A refused call changes nothing.
+    Refusal, "number",
+    /// The reason in words.
+    reason;
     Shape = 1, "the buffers' lengths or the board's four numbers disagree or are out of limits";
     Range = 2, "a process, slot, segment, frame, physical line, line name, page or global address is outside its range, or a \
         store's value does not fit its width";
@@ -32,31 +22,12 @@ refusals! {
 }
 
 impl Refusal {
-    /// The number in the scope document's table.
-    pub fn number(self) -> u32 {
-        self as u32
-    }
-
     /// The refusal of a number; 0 is done, and so no refusal.
     ///
     /// # Panics
     /// At a number that no call is proved able to give.
     pub fn of(number: u32) -> Option<Refusal> {
-        match number {
-            0 => None,
-            n => Some(REASONS[n as usize - 1].0),
-        }
-    }
-
-    /// The reason in words.
-    pub fn reason(self) -> &'static str {
-        REASONS[self.number() as usize - 1].1
-    }
-}
-
-impl fmt::Display for Refusal {
-    fn fmt(&self, f: &mut fmt::Formatter) -> fmt::Result {
-        write!(f, "{} (number {})", self.reason(), self.number())
+        (number != 0).then(|| Self::by_number(number))
     }
 }
 

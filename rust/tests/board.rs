@@ -1,6 +1,8 @@
-// The safe crate beside the hostile test: limits, words, look's parts, values, the load in two parts, both kinds of buffers,
-// entries.
-use oaledva::{entry_of_page, Board, Lent, Refusal, Shape};
+// The safe crate beside the hostile test: limits, words, look's parts, values, marks, the load in two parts, both kinds of
+// buffers, entries.
+use oaledva::{entry_of_page, Board, Lent, Mark, Refusal, Shape};
+use std::ops::DerefMut;
+use std::panic::catch_unwind;
 
 const SHAPE: Shape = Shape { frames: 4, uncached: 1, processes: 2, lines: 2 };
 const PAGE: u64 = 0x200000;
@@ -42,10 +44,24 @@ fn refusals_have_numbers_and_words() {
         assert_eq!(refusal.to_string(), format!("{} (number {number})", refusal.reason()));
     }
     assert_eq!(Refusal::of(0), None);
+    assert!(catch_unwind(|| Refusal::of(14)).is_err());
     assert_eq!(
         mapped().load(1, 1, 3).unwrap_err().to_string(),
         "no segment is attached to the address's slot (number 6)"
     );
+}
+
+#[test]
+fn marks_have_numbers_and_words() {
+    let marks = [Mark::NoAccess, Mark::Hit, Mark::Refilled, Mark::WroteBack, Mark::Uncached];
+    for (number, mark) in (0..).zip(marks) {
+        assert_eq!((mark.number(), Mark::of(number)), (number, mark));
+        assert_eq!(mark.to_string(), format!("{} (mark {number})", mark.words()));
+    }
+    for number in [5, 255, 256, u32::MAX] {
+        assert!(catch_unwind(|| Mark::of(number)).is_err(), "{number}");
+    }
+    assert_eq!(Mark::Hit.to_string(), "the line was held when the access came (mark 1)");
 }
 
 #[test]
@@ -107,6 +123,47 @@ fn a_store_takes_what_fits_its_width() {
     );
 }
 
+/// Each mark, on a board as `mapped` gives it. The lines of a user's addresses 0 and 32, and that under prefix 1, have one place:
+/// they push each other out.
+fn every_mark<Slots, Words, Bytes>(board: &mut Board<Slots, Words, Bytes>)
+where
+    Slots: DerefMut<Target = [u32]>,
+    Words: DerefMut<Target = [u64]>,
+    Bytes: DerefMut<Target = [u8]>,
+{
+    let (prefix_1, most) = ((1 << 32) + 2 * 4096, u32::MAX);
+    assert_eq!((board.store(0, 4, 0, most), board.mark()), (Ok(()), Mark::Refilled));
+    assert!(!board.hit());
+    assert_eq!((board.load(0, 4, 0), board.mark()), (Ok(most), Mark::Hit));
+    assert!(board.hit());
+    assert_eq!((board.load(0, 4, 32), board.mark()), (Ok(0), Mark::WroteBack));
+    assert!(!board.hit());
+    assert_eq!((board.load(0, 4, 0), board.mark()), (Ok(most), Mark::Refilled));
+    assert_eq!((board.store(0, 1, 0, 255), board.mark()), (Ok(()), Mark::Hit));
+    assert_eq!((board.store(0, 4, 32, most), board.mark()), (Ok(()), Mark::WroteBack));
+
+    assert_eq!((board.supervisor_load(4, prefix_1), board.mark()), (Ok(0), Mark::WroteBack));
+    assert_eq!((board.supervisor_store(4, prefix_1, most), board.mark()), (Ok(()), Mark::Hit));
+    assert_eq!((board.supervisor_store(4, PAGE * 4096, most), board.mark()), (Ok(()), Mark::WroteBack));
+    assert_eq!((board.supervisor_load(4, PAGE * 4096), board.mark()), (Ok(most), Mark::Hit));
+    for _ in 0..2 {
+        assert_eq!((board.supervisor_store(4, 8, most), board.mark()), (Ok(()), Mark::Uncached));
+        assert_eq!((board.supervisor_load(4, 8), board.mark()), (Ok(most), Mark::Uncached));
+        assert!(!board.hit());
+    }
+
+    // A look leaves it; a refused access has none; nor has a call that is no access, though it writes a line back.
+    assert_eq!((board.look(256).is_ok(), board.look_number(256), board.mark()), (true, 0, Mark::Uncached));
+    assert_eq!((board.load(0, 4, 2), board.mark()), (Err(Refusal::Alignment), Mark::NoAccess));
+    assert_eq!((board.store(0, 1, 3, 1), board.mark(), board.memory()[4096 + 3]), (Ok(()), Mark::Hit, 255));
+    assert_eq!((board.tag(PAGE * 256 + 2), board.mark()), (Ok(()), Mark::NoAccess));
+    assert_eq!((board.load(0, 1, 3), board.mark()), (Err(Refusal::Tag), Mark::NoAccess));
+    assert_eq!((board.load_and_map(256 + 2), board.mark(), board.memory()[4096 + 3]), (Ok(()), Mark::NoAccess, 1));
+    assert_eq!((board.load(0, 4, 32), board.mark()), (Ok(most), Mark::Hit));
+    assert_eq!((board.flush_all(), board.mark()), (Ok(()), Mark::NoAccess));
+    assert_eq!((board.load(0, 4, 32), board.mark()), (Ok(most), Mark::Refilled));
+}
+
 #[test]
 fn a_load_in_two_parts() {
     let mut board = mapped();
@@ -128,9 +185,12 @@ fn an_owned_and_a_lent_board_are_one_machine() {
     let (mut slots, mut words) = (own.slots().to_vec(), own.words().to_vec());
     let (mut records, mut cache, mut memory) = (own.records().to_vec(), own.cache().to_vec(), own.memory().to_vec());
     let mut lent = Lent::over(SHAPE, &mut slots, &mut words, &mut records, &mut cache, &mut memory, None);
+    assert_eq!((Board::new(SHAPE).unwrap().mark(), lent.mark()), (Mark::NoAccess, Mark::NoAccess));
+    every_mark(&mut own);
+    every_mark(&mut lent);
     for (at, value) in [(0, 50), (32, 7), (0, 9)] {
-        assert_eq!(own.store(0, 4, at, value), lent.store(0, 4, at, value));
-        assert_eq!((own.load(0, 2, at + 2), own.hit()), (lent.load(0, 2, at + 2), lent.hit()));
+        assert_eq!((own.store(0, 4, at, value), own.mark()), (lent.store(0, 4, at, value), lent.mark()));
+        assert_eq!((own.load(0, 2, at + 2), own.mark()), (lent.load(0, 2, at + 2), lent.mark()));
     }
     assert_eq!((own.records(), own.cache(), own.memory()), (&records[..], &cache[..], &memory[..]));
 }

@@ -1,6 +1,7 @@
 // The three texts that declare the library's functions say the same: the Rattle source, the C header and ffi.rs. Names, order,
 // types and what is only read are compared, in one common form: `name: type`, a slice as a pointer and a length. The header
-// and ffi.rs put some numbers into types of their own, which the source doesn't have: there such a type is its numbers.
+// and ffi.rs put some numbers into types of their own, which the source doesn't have: there such a type is its numbers. So are
+// the numbers with names compared, refusals and marks, and how an answer and an entry are packed.
 use std::collections::BTreeMap;
 
 /// A function's parameters and its result.
@@ -8,6 +9,9 @@ type Functions = BTreeMap<String, (Vec<String>, String)>;
 
 /// The types of their own, each with its numbers.
 type Types = BTreeMap<String, Vec<String>>;
+
+/// Numbers by name, without C's `OALEDVA_`.
+type Numbers = BTreeMap<String, u64>;
 
 fn text(file: &str) -> String {
     let path = format!("{}/../{file}", env!("CARGO_MANIFEST_DIR"));
@@ -98,7 +102,8 @@ fn types_of_c(header: &str) -> Types {
     let mut rest = header;
     while let Some((declared, after)) = between(rest, "typedef struct ", "}") {
         let (name, body) = declared.trim_start_matches("OALEDVA_MUST_USE_TYPE ").split_once(" {").unwrap();
-        if name != "oaledva_board" {
+        // These two stay in the header: no function of the library takes or gives one.
+        if !["oaledva_board", "oaledva_marked"].contains(&name) {
             types.insert(rust_type(name), numbers(body));
         }
         rest = after;
@@ -171,6 +176,46 @@ fn in_numbers(functions: Functions, types: &Types) -> Functions {
     functions.into_iter().map(of).collect()
 }
 
+/// The lines of which `part` gives a name and a number, decimal or 0x, before a comma, a semicolon or a comment.
+fn numbers(text: &str, part: fn(&str) -> Option<(&str, &str)>) -> Numbers {
+    let of_line = |line: &str| {
+        let (name, rest) = part(line.trim())?;
+        let written = rest.split([',', ';', '/']).next()?.trim();
+        let hex = written.strip_prefix("0x").map(|digits| u64::from_str_radix(digits, 16));
+        Some((name.into(), hex.unwrap_or_else(|| written.parse()).ok()?))
+    };
+    text.lines().filter_map(of_line).collect()
+}
+
+/// By `const`, in Rattle as in Rust.
+fn constants(source: &str) -> Numbers {
+    numbers(source, |line| {
+        let (name, rest) = line.trim_start_matches("pub ").strip_prefix("const ")?.split_once(": ")?;
+        Some((name, rest.split_once(" = ")?.1))
+    })
+}
+
+/// By `#define`.
+fn defined(header: &str) -> Numbers {
+    numbers(header, |line| line.strip_prefix("#define OALEDVA_")?.split_once(' '))
+}
+
+/// The header's two enumerations: refusals, marks.
+fn enumerated(header: &str) -> Vec<Numbers> {
+    let bodies = header.split("\nenum {\n").skip(1).map(|rest| rest.split("\n};").next().unwrap());
+    bodies.map(|body| numbers(body, |line| line.strip_prefix("OALEDVA_")?.split_once(" = "))).collect()
+}
+
+/// The crate's, each in a file of its own, by names as C writes them.
+fn numbered(declarations: &str) -> Numbers {
+    let (body, _) = between(declarations, "\nnumbered! {\n", "\n}").unwrap();
+    let in_c = |name: String| {
+        let letters = name.chars().flat_map(|c| if c.is_uppercase() { vec!['_', c] } else { vec![c] });
+        letters.skip(1).collect::<String>().to_uppercase()
+    };
+    numbers(body, |line| line.split_once(" = ")).into_iter().map(|(name, number)| (in_c(name), number)).collect()
+}
+
 #[test]
 fn the_source_the_header_and_the_crate_declare_the_same() {
     let mut source = of_rattle(&text("crates/oaledva/src/lib.rt"));
@@ -199,11 +244,44 @@ fn the_source_the_header_and_the_crate_declare_the_same() {
     }
 }
 
+/// The marks have names in all three, but that of no access, which the source writes as 0; the refusals in the header and the
+/// crate.
+#[test]
+fn numbers_with_names_are_the_same() {
+    let [refusals, marks] = &enumerated(&text("include/oaledva.h"))[..] else { panic!("not two enumerations") };
+    assert_eq!((refusals.len(), marks.len()), (13, 5));
+    assert_eq!(refusals, &numbered(&text("rust/src/refusal.rs")));
+    assert_eq!(marks, &numbered(&text("rust/src/mark.rs")));
+    let source = constants(&text("crates/board/src/lib.rt"));
+    for (name, number) in marks.iter().filter(|(name, _)| *name != "NO_ACCESS") {
+        assert_eq!(source.get(name), Some(number), "{name}");
+    }
+    assert_eq!(marks["NO_ACCESS"], 0);
+}
+
+#[test]
+fn answers_and_entries_are_packed_the_same() {
+    let (header, crates) = (defined(&text("include/oaledva.h")), text("rust/src/ffi.rs"));
+    let of = |kind: &str| constants(between(&crates, &format!("\nimpl {kind} {{\n"), "\n}").unwrap().0);
+    let (answer, entry) = (of("Answer"), of("Entry"));
+    assert_eq!((answer.len(), entry.len()), (3, 1));
+    for (name, number) in &answer {
+        assert_eq!(header.get(name), Some(number), "{name}");
+    }
+    assert_eq!(header["ENTRY_NUMBER_AT"], entry["NUMBER_AT"]);
+    let (crossing, address) = (text("crates/crossing/src/lib.rt"), text("crates/address/src/lib.rt"));
+    for (unit, at) in [("NUMBER_UNIT", "NUMBER_AT"), ("MARK_UNIT", "MARK_AT")] {
+        assert_eq!(constants(&crossing)[unit], 1 << header[at], "{unit}");
+    }
+    assert_eq!(constants(&address)["GLOBAL_END"], 1 << header["ENTRY_NUMBER_AT"]);
+}
+
 /// So that the comparison can fail: each text, changed in one place, is another.
 #[test]
 fn a_changed_declaration_shows() {
     let (source, header) = (text("crates/oaledva/src/lib.rt"), text("include/oaledva.h"));
-    let crates = text("rust/src/ffi.rs");
+    let (crates, marks) = (text("rust/src/ffi.rs"), text("rust/src/mark.rs"));
+    let board = text("crates/board/src/lib.rt");
     let changed = |text: &str, old: &str, new: &str| {
         assert!(text.contains(old), "{old}");
         text.replacen(old, new, 1)
@@ -230,4 +308,13 @@ fn a_changed_declaration_shows() {
     assert_ne!(of_rust(&crates), of_rust(&changed(&crates, "-> Answer", "-> u64")));
     assert_ne!(of_rust(&crates), of_rust(&changed(&crates, "entry_of_page(page: u64)", "entry_of_page(page: u32)")));
     assert_ne!(of_rust(&crates), of_rust(&changed(&crates, "-> Entry", "-> Place")));
+    assert_ne!(enumerated(&header), enumerated(&changed(&header, "OALEDVA_HIT = 1,", "OALEDVA_HIT = 2,")));
+    assert_ne!(enumerated(&header), enumerated(&changed(&header, "OALEDVA_UNCACHED = 4", "OALEDVA_PAST = 4")));
+    assert_ne!(enumerated(&header), enumerated(&changed(&header, "    OALEDVA_TAG = 3,", "    OALEDVA_TAG = 4,")));
+    assert_ne!(defined(&header), defined(&changed(&header, "OALEDVA_NUMBER_AT 56", "OALEDVA_NUMBER_AT 55")));
+    assert_ne!(defined(&header), defined(&changed(&header, "OALEDVA_MARK_MASK 0xff", "OALEDVA_MARK_MASK 0x7f")));
+    assert_ne!(numbered(&marks), numbered(&changed(&marks, "Refilled = 2", "Refilled = 3")));
+    assert_ne!(numbered(&marks), numbered(&changed(&marks, "    WroteBack =", "    Wroteback =")));
+    assert_ne!(constants(&crates), constants(&changed(&crates, "MARK_AT: u32 = 32", "MARK_AT: u32 = 33")));
+    assert_ne!(constants(&board), constants(&changed(&board, "WROTE_BACK: u32 = 3", "WROTE_BACK: u32 = 2")));
 }

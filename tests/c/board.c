@@ -1,5 +1,6 @@
 /* What the header adds to the library's functions, tried: boards in static buffers and in a block, limits, the calls on a
- * board, values and widths, look's bytes, entries. tests/c/run compiles this as C99, C11, C++11 and C++17 and runs each. */
+ * board, values and widths, marks, look's bytes, entries. tests/c/run compiles this as C99, C11, C++11 and C++17 and runs
+ * each. */
 #include <oaledva.h>
 #include <oaledva.h> /* twice is once */
 #include <stdio.h>
@@ -20,10 +21,11 @@ OALEDVA_STATIC_BOARD(outside, 4, 1, 2, 2);
 OALEDVA_STATIC_BOARD(largest, 4, 1, OALEDVA_PROCESSES_MAX, OALEDVA_LINES_MAX);
 OALEDVA_STATIC_BOARD(reckoned, 0 ? 3 : 5, 1 ? 1 : 7, 1 + 2, 2 + 2);
 
-/* An answer as 01's tables write it. */
+/* An answer as 01's tables write it; and it is packed of these three, with nothing between. */
 static int gives(oaledva_answer answer, uint32_t number, uint32_t value, uint32_t mark) {
-    return oaledva_number(answer) == number && oaledva_value(answer) == value && oaledva_mark(answer) == mark
-           && oaledva_done(answer) == (number == 0);
+    return oaledva_number(answer) == number && oaledva_value(answer) == value && oaledva_mark(answer).mark == mark
+           && oaledva_done(answer) == (number == 0) && oaledva_hit(answer) == (mark == 1)
+           && answer.packed == ((uint64_t)number << 56) + ((uint64_t)mark << 32) + value;
 }
 
 /* Every call of a board, on a fresh one of F 4, U 1 and any P and L, by its last process. */
@@ -35,8 +37,8 @@ static void every_call(oaledva_board *b) {
     EXPECT(gives(oaledva_board_attach(b, last, 511, 2048, OALEDVA_READ_ONLY), 0, 0, 0));
     EXPECT(gives(oaledva_board_store(b, last, 4, 511u << 22, 50), OALEDVA_SLOT_READ_ONLY, 0, 0));
     EXPECT(gives(oaledva_board_attach(b, last, 511, 2048, OALEDVA_WRITABLE), 0, 0, 0));
-    EXPECT(gives(oaledva_board_store(b, last, 4, 511u << 22, 0x01020304), 0, 0, 0));
-    EXPECT(gives(oaledva_board_load(b, last, 1, (511u << 22) + 3), 0, 4, 1));
+    EXPECT(gives(oaledva_board_store(b, last, 4, 511u << 22, 0x01020304), 0, 0, OALEDVA_REFILLED));
+    EXPECT(gives(oaledva_board_load(b, last, 1, (511u << 22) + 3), 0, 4, OALEDVA_HIT));
     /* An address that does not fit 32 bits, as a global one of an ordinary page, is not cut: it is refused by 5, or by a lower
      * number that applies. */
     EXPECT(gives(oaledva_board_load(b, last, 1, PAGE * 4096 + 3), OALEDVA_KERNEL, 0, 0));
@@ -53,8 +55,8 @@ static void every_call(oaledva_board *b) {
     EXPECT(oaledva_board_look_number(b, 4 * 256 - 1).number == 0);
     EXPECT(gives(oaledva_board_protect(b, PAGE, OALEDVA_READ_ONLY), 0, 0, 0));
     EXPECT(gives(oaledva_board_store(b, last, 1, 511u << 22, 1), OALEDVA_PAGE_READ_ONLY, 0, 0));
-    EXPECT(gives(oaledva_board_supervisor_store(b, 2, PAGE * 4096, 0x0a0b), 0, 0, 0));
-    EXPECT(gives(oaledva_board_supervisor_load(b, 4, PAGE * 4096), 0, 0x0a0b0304, 1));
+    EXPECT(gives(oaledva_board_supervisor_store(b, 2, PAGE * 4096, 0x0a0b), 0, 0, OALEDVA_REFILLED));
+    EXPECT(gives(oaledva_board_supervisor_load(b, 4, PAGE * 4096), 0, 0x0a0b0304, OALEDVA_HIT));
     EXPECT(gives(oaledva_board_unmap(b, PAGE), 0, 0, 0));
     EXPECT(gives(oaledva_board_map(b, PAGE, 3, two), 0, 0, 0));
     EXPECT(gives(oaledva_board_load_and_map(b, 3 * 256), OALEDVA_TAG, 0, 0));
@@ -65,7 +67,7 @@ static void every_call(oaledva_board *b) {
     EXPECT(gives(oaledva_board_supervisor_store(b, 1, PAGE * 4096, 1), OALEDVA_TAG, 0, 0));
     EXPECT(gives(oaledva_board_load_and_map(b, 256), OALEDVA_OTHER_LINE, 0, 0) && b->tag.set == 1);
     EXPECT(gives(oaledva_board_load_and_map(b, 3 * 256), 0, 0, 0) && b->tag.set == 0 && b->tag.name == 0);
-    EXPECT(gives(oaledva_board_store(b, last, 1, 511u << 22, 1), 0, 0, 1));
+    EXPECT(gives(oaledva_board_store(b, last, 1, 511u << 22, 1), 0, 0, OALEDVA_HIT));
     EXPECT(gives(oaledva_board_tag(b, name), 0, 0, 0));
     EXPECT(gives(oaledva_board_drop_tag(b), 0, 0, 0) && b->tag.set == 0 && b->tag.name == 0);
     EXPECT(gives(oaledva_board_detach(b, last, 511), 0, 0, 0));
@@ -86,7 +88,7 @@ static void values(void) {
     for (size_t i = 0; i < OALEDVA_COUNT(widths); i++) {
         const uint32_t width = widths[i], largest = largest_of[i], next = largest + 1;
         EXPECT(oaledva_done(oaledva_board_store(&b, 0, width, 0, largest)));
-        EXPECT(gives(oaledva_board_load(&b, 0, width, 0), 0, largest, 1));
+        EXPECT(gives(oaledva_board_load(&b, 0, width, 0), 0, largest, OALEDVA_HIT));
         for (size_t j = 0; j < OALEDVA_COUNT(addresses); j++) {
             EXPECT(oaledva_done(oaledva_board_supervisor_store(&b, width, addresses[j], largest)));
             EXPECT(oaledva_value(oaledva_board_supervisor_load(&b, width, addresses[j])) == largest);
@@ -100,13 +102,103 @@ static void values(void) {
             for (size_t j = 0; j < OALEDVA_COUNT(addresses); j++)
                 EXPECT(gives(oaledva_board_supervisor_store(&b, width, addresses[j], next), OALEDVA_RANGE, 0, 0));
             /* A load's value is not asked. */
-            EXPECT(gives(oaledva_user_access(OALEDVA_LEND(b), b.tag, 0, OALEDVA_LOAD, width, 0, next), 0, largest, 1));
+            EXPECT(gives(oaledva_user_access(OALEDVA_LEND(b), b.tag, 0, OALEDVA_LOAD, width, 0, next), 0, largest,
+                         OALEDVA_HIT));
         }
         EXPECT(gives(oaledva_board_store(&b, 0, 3, 0, UINT32_MAX), OALEDVA_ALIGNMENT, 0, 0));
         EXPECT(memcmp(kept, block, bytes) == 0);
     }
     free(kept);
     free(block);
+}
+
+/* The mark as a program tells it apart. */
+static const char *cost(oaledva_answer answer) {
+    switch (oaledva_mark(answer).mark) {
+    case OALEDVA_NO_ACCESS: return "no access";
+    case OALEDVA_HIT: return "hit";
+    case OALEDVA_REFILLED: return "refilled";
+    case OALEDVA_WROTE_BACK: return "wrote back";
+    case OALEDVA_UNCACHED: return "uncached";
+    }
+    return "none";
+}
+
+/* Each mark, by a load and by a store; the largest value beside it. The two lines of each pair below have one place, 0, so
+ * they push each other out: a user's at 0 and 32, a supervisor's at the start of the page and under prefix 1. */
+static void marks(void) {
+    OALEDVA_STATIC_BOARD(b, 4, 1, 2, 2);
+    const uint32_t most = UINT32_MAX;
+    const uint64_t ordinary = PAGE * 4096, prefix_1 = ((uint64_t)1 << 32) + 2 * 4096;
+    EXPECT(gives(oaledva_board_map(&b, PAGE, 1, OALEDVA_WRITABLE), 0, 0, OALEDVA_NO_ACCESS));
+    EXPECT(gives(oaledva_board_attach(&b, 0, 0, 2048, OALEDVA_WRITABLE), 0, 0, OALEDVA_NO_ACCESS));
+
+    EXPECT(gives(oaledva_board_load(&b, 0, 4, 0), 0, 0, OALEDVA_REFILLED));
+    EXPECT(gives(oaledva_board_store(&b, 0, 4, 0, most), 0, 0, OALEDVA_HIT));
+    EXPECT(gives(oaledva_board_load(&b, 0, 4, 0), 0, most, OALEDVA_HIT));
+    EXPECT(b.memory[4096] == 0);
+    EXPECT(gives(oaledva_board_load(&b, 0, 4, 32), 0, 0, OALEDVA_WROTE_BACK));
+    EXPECT(b.memory[4096] == 0xff);
+    EXPECT(gives(oaledva_board_load(&b, 0, 4, 0), 0, most, OALEDVA_REFILLED));
+    EXPECT(gives(oaledva_board_store(&b, 0, 4, 32, most), 0, 0, OALEDVA_REFILLED));
+    EXPECT(gives(oaledva_board_load(&b, 0, 4, 0), 0, most, OALEDVA_WROTE_BACK));
+    EXPECT(gives(oaledva_board_store(&b, 0, 1, 0, 0xff), 0, 0, OALEDVA_HIT));
+    EXPECT(gives(oaledva_board_store(&b, 0, 1, 32, 0xff), 0, 0, OALEDVA_WROTE_BACK));
+
+    EXPECT(gives(oaledva_board_supervisor_store(&b, 4, prefix_1, most), 0, 0, OALEDVA_WROTE_BACK));
+    EXPECT(gives(oaledva_board_supervisor_load(&b, 4, prefix_1), 0, most, OALEDVA_HIT));
+    EXPECT(gives(oaledva_board_supervisor_load(&b, 4, ordinary), 0, most, OALEDVA_WROTE_BACK));
+    EXPECT(gives(oaledva_board_supervisor_load(&b, 4, prefix_1), 0, most, OALEDVA_REFILLED));
+    EXPECT(gives(oaledva_board_supervisor_store(&b, 4, ordinary, most), 0, 0, OALEDVA_REFILLED));
+    EXPECT(gives(oaledva_board_load(&b, 0, 4, 0), 0, most, OALEDVA_HIT));
+    for (int i = 0; i < 2; i++) {
+        EXPECT(gives(oaledva_board_supervisor_store(&b, 4, 8, most), 0, 0, OALEDVA_UNCACHED));
+        EXPECT(gives(oaledva_board_supervisor_load(&b, 4, 8), 0, most, OALEDVA_UNCACHED));
+    }
+
+    /* Refused: 0, though the line is held. No access: 0, though load-and-map refills and writes back, and unmap writes back. */
+    EXPECT(gives(oaledva_board_load(&b, 0, 4, 2), OALEDVA_ALIGNMENT, 0, OALEDVA_NO_ACCESS));
+    EXPECT(gives(oaledva_board_supervisor_load(&b, 4, 4096), OALEDVA_OUTSIDE, 0, OALEDVA_NO_ACCESS));
+    EXPECT(gives(oaledva_board_store(&b, 0, 4, 0, 1), 0, 0, OALEDVA_HIT) && b.memory[4096 + 3] == 0xff);
+    EXPECT(gives(oaledva_board_tag(&b, PAGE * 256 + 2), 0, 0, OALEDVA_NO_ACCESS));
+    EXPECT(gives(oaledva_board_load(&b, 0, 4, 0), OALEDVA_TAG, 0, OALEDVA_NO_ACCESS));
+    EXPECT(gives(oaledva_board_load_and_map(&b, 256), OALEDVA_OTHER_LINE, 0, OALEDVA_NO_ACCESS));
+    EXPECT(gives(oaledva_board_load_and_map(&b, 256 + 2), 0, 0, OALEDVA_NO_ACCESS) && b.memory[4096 + 3] == 1);
+    EXPECT(gives(oaledva_board_store(&b, 0, 1, 32, 2), 0, 0, OALEDVA_HIT) && b.memory[4096 + 32] == 0xff);
+    EXPECT(gives(oaledva_board_unmap(&b, PAGE), 0, 0, OALEDVA_NO_ACCESS) && b.memory[4096 + 32] == 2);
+    EXPECT(gives(oaledva_board_load(&b, 0, 1, 32), OALEDVA_NOT_MAPPED, 0, OALEDVA_NO_ACCESS));
+
+    /* The same by each buffer, and told apart by name. */
+    EXPECT(strcmp(cost(oaledva_map(OALEDVA_LEND(b), PAGE, 1, OALEDVA_WRITABLE)), "no access") == 0);
+    EXPECT(strcmp(cost(oaledva_user_access(OALEDVA_LEND(b), b.tag, 0, OALEDVA_STORE, 4, 0, most)), "refilled") == 0);
+    EXPECT(strcmp(cost(oaledva_user_access(OALEDVA_LEND(b), b.tag, 0, OALEDVA_LOAD, 4, 0, 0)), "hit") == 0);
+    EXPECT(strcmp(cost(oaledva_user_access(OALEDVA_LEND(b), b.tag, 0, OALEDVA_LOAD, 4, 32, 0)), "wrote back") == 0);
+    EXPECT(strcmp(cost(oaledva_supervisor_access(OALEDVA_LEND(b), b.tag, OALEDVA_LOAD, 4, 8, 0)), "uncached") == 0);
+}
+
+/* How an answer is taken apart, at the ends of its parts: each alone, all at once, and the bits between, which are no part. */
+static void packing(void) {
+    static const struct {
+        uint64_t packed;
+        uint32_t number, value, mark;
+    } given[] = {{0, 0, 0, 0},
+                 {1, 0, 1, 0},
+                 {0xffffffff, 0, 0xffffffff, 0},
+                 {(uint64_t)1 << 32, 0, 0, 1},
+                 {(uint64_t)0xff << 32, 0, 0, 0xff},
+                 {(uint64_t)0xffff << 40, 0, 0, 0},
+                 {(uint64_t)1 << 56, 1, 0, 0},
+                 {(uint64_t)0xff << 56, 0xff, 0, 0},
+                 {UINT64_MAX, 0xff, 0xffffffff, 0xff}};
+    for (size_t i = 0; i < OALEDVA_COUNT(given); i++) {
+        const oaledva_answer answer = {given[i].packed};
+        EXPECT(oaledva_number(answer) == given[i].number && oaledva_done(answer) == (given[i].number == 0));
+        EXPECT(oaledva_mark(answer).mark == given[i].mark && oaledva_hit(answer) == (given[i].mark == 1));
+        EXPECT(oaledva_value(answer) == given[i].value);
+    }
+    EXPECT(sizeof(oaledva_answer) == 8 && sizeof(oaledva_marked) == 4);
+    EXPECT(OALEDVA_NO_ACCESS == 0 && OALEDVA_HIT == 1 && OALEDVA_REFILLED == 2 && OALEDVA_WROTE_BACK == 3);
+    EXPECT(OALEDVA_UNCACHED == 4);
 }
 
 /* The entry of a page, at the ends of what is refused, and three of 01's. */
@@ -238,6 +330,8 @@ int main(void) {
     in_a_block();
     limits();
     values();
+    marks();
+    packing();
     entries();
     return 0;
 }

@@ -10,6 +10,7 @@ void ignore_all(void *block, oaledva_answer a, oaledva_place place, oaledva_entr
     oaledva_mark(a);
     oaledva_value(a);
     oaledva_done(a);
+    oaledva_hit(a);
     oaledva_bytes_at(b.cache, b.memory, place);
     oaledva_entry_number(entry);
     oaledva_entry_address(entry);

@@ -3,8 +3,8 @@
 //! A case is named `fresh` if a sequence of calls from a fresh board reaches it, and then it must be reached on such a board.
 //! `wild` are those that need a board no sequence reaches, or numbers and lengths that disagree: held lines of a page that is
 //! not mapped or mapped elsewhere (unmap drops a page's lines, and map refuses a mapped page), held prefix 1 lines of a frame
-//! in use (map drops them), names that no access has, doubled pages, records that hold nothing but are valid, slot words
-//! outside the range, and number 1.
+//! in use (map drops them), a line held under two names, names that no access fills, doubled pages, records that hold nothing
+//! but are valid, slot words outside the range, and number 1.
 
 use crate::limits::*;
 use crate::routes::{Manner, Route};
@@ -43,6 +43,10 @@ cases! {
     Fresh LoadMiss "load: miss";
     Fresh StoreHit "store: hit";
     Fresh StoreMiss "store: miss";
+    Fresh HitChanged "hit on a changed line";
+    Fresh MissOverClean "miss over a held line that is not changed";
+    Fresh MissOverInvalid "miss over a changed record that holds nothing: not valid";
+    Fresh MissWritesEqual "miss: writes back the bytes that memory has already";
     Fresh UncachedLoad "prefix 0: load";
     Fresh UncachedStore "prefix 0: store";
     Fresh TopAddress "user access done at 0x7FFFFFFF";
@@ -97,7 +101,11 @@ cases! {
     Wild InUseLow "prefix 1, 10: the frame is below U";
     Wild SlotOutOfRange "user access, 6: a slot word outside the range";
     Wild MissWritesFar "miss: writes back a name from 2^40 up";
-    Wild MissOverStale "miss over a changed record that holds nothing";
+    Wild MissWritesOwn "miss: writes back to the very line that it fills";
+    Wild MissOverStray "miss over a changed record that holds nothing: not at its place";
+    Wild MissOverBeyond "miss over a changed record that holds nothing: of a line beyond memory";
+    Wild MissOwnName "miss though a valid record at the place has the name: its line is beyond memory";
+    Wild UncachedHeld "prefix 0: done while a held line has that very name";
     Wild MapDropsPage "map: drops by the page's names";
     Wild MapDropsBoth "map: drops by both ranges";
     Wild MapNoForm "map, 10: a word of no form";
@@ -167,9 +175,13 @@ pub enum Before {
 pub struct Line {
     name: u64,
     kind: Kind,
-    /// The record at its place, and whether that holds a line.
-    record: Record,
-    holds: bool,
+    /// The record at its place, whether it stands at its own place and has a line in memory, whether it holds a line, and
+    /// whether memory has the bytes of that line already.
+    pub record: Record,
+    placed: bool,
+    inside: bool,
+    pub holds: bool,
+    pub equal: bool,
     /// Where the page is mapped: physical line, write bit.
     mapped: Option<(u64, bool)>,
 }
@@ -177,22 +189,44 @@ pub struct Line {
 impl Line {
     fn of(board: &Board, name: u64) -> Line {
         let place = place_of(name, board.shape.lines);
+        let (record, holds) = (board.record(place), board.held(place).is_some());
+        let bytes_of = |line: u64| (line * LINE_BYTES) as usize..((line + 1) * LINE_BYTES) as usize;
         Line {
             name,
             kind: kind_of(name.wrapping_mul(LINE_BYTES) % GLOBAL_END),
-            record: board.record(place),
-            holds: board.held(place).is_some(),
+            record,
+            placed: place_of(record.name, board.shape.lines) == place,
+            inside: record.line < LINES_PER_PAGE * board.shape.frames,
+            holds,
+            equal: holds && board.cache[bytes_of(place)] == board.memory[bytes_of(record.line)],
             mapped: mapping(&board.shape, &board.words, page_of_name(name))
                 .map(|(frame, write)| (frame * LINES_PER_PAGE + name % LINES_PER_PAGE, write)),
         }
     }
 
-    fn held(&self) -> bool {
+    pub fn held(&self) -> bool {
         self.holds && self.record.name == self.name
+    }
+
+    /// Whether the record at its place has the physical line from which a miss fills.
+    pub fn of_this_line(&self) -> bool {
+        let home = match self.kind {
+            Kind::Cached(physical) => Some(physical / LINE_BYTES),
+            _ => self.mapped.map(|(line, _)| line),
+        };
+        home == Some(self.record.line)
     }
 }
 
 impl Facts {
+    /// The line of an access or of a load-and-map.
+    pub fn line(&self) -> Option<&Line> {
+        match self {
+            Facts::Fit { before: Before::Line(line), .. } => Some(line),
+            _ => None,
+        }
+    }
+
     pub fn before(board: &Board, call: &Call) -> Facts {
         if !board.fits() {
             return Facts::Unfit(cause_of_one(board));
@@ -358,6 +392,7 @@ pub fn cases_of(facts: &Facts, call: &Call, event: Event) -> Vec<Case> {
                     when(done && *global == shape.uncached * PAGE_BYTES - 1, Case::TopUncached);
                     when(done && !store, Case::UncachedLoad);
                     when(done && *store, Case::UncachedStore);
+                    when(done && line.held(), Case::UncachedHeld);
                     when(done && tag.0, Case::TaggedPrefix);
                     when(outside, Case::OutsidePrefix0);
                 }
@@ -434,14 +469,22 @@ fn access_cases(line: &Line, store: bool, event: Event, ways: &Ways, when: &mut 
             when(true, if store { Case::StoreHit } else { Case::LoadHit });
             when(line.kind == Kind::Ordinary && line.mapped.is_none(), Case::HitUnmapped);
             when(elsewhere, Case::HitElsewhere);
+            when(line.record.changed, Case::HitChanged);
         }
         Event::Miss | Event::MissWriteBack => {
             let written = event == Event::MissWriteBack;
-            let stale = line.record.valid && line.record.changed && !line.holds;
+            let Record { valid, changed, name, .. } = line.record;
             when(true, if written { ways[2] } else { ways[1] });
             when(true, if store { Case::StoreMiss } else { Case::LoadMiss });
-            when(written && line.record.name >= NAMES_END, Case::MissWritesFar);
-            when(stale, Case::MissOverStale);
+            when(written && name >= NAMES_END, Case::MissWritesFar);
+            when(written && line.equal, Case::MissWritesEqual);
+            when(written && line.of_this_line(), Case::MissWritesOwn);
+            // What nothing is written back of: a line that is not changed, and what would be one but for one thing.
+            when(line.holds && !changed, Case::MissOverClean);
+            when(changed && !valid && line.placed && line.inside, Case::MissOverInvalid);
+            when(changed && valid && !line.placed && line.inside, Case::MissOverStray);
+            when(changed && valid && line.placed && !line.inside, Case::MissOverBeyond);
+            when(valid && name == line.name && !line.inside, Case::MissOwnName);
         }
         _ => {}
     }

@@ -1,8 +1,9 @@
-//! What was reached: each refusal number of each call, each case, each route of each call, each call at the limits of P and L,
-//! each value at the end of a width beside each number; and what must be.
+//! What was reached: each refusal number of each call, each case, each route of each call, each mark of each call by each route,
+//! each call at the limits of P and L, each value at the end of a width beside each number; and what must be.
 
 use crate::cases::{Case, Reach, CASES};
-use crate::limits::{ENTRY_PAGES, LINES_MAX, PROCESSES_MAX, VALUES, WIDTHS};
+use crate::limits::{ENTRY_PAGES, LINES_MAX, MARKS, PROCESSES_MAX, VALUES, WIDTHS};
+use crate::marks::{self, MARKED, OUTCOMES};
 use crate::routes::{Route, ROUTES};
 use crate::trace::Deed;
 use crate::values::{Tried, ROWS};
@@ -91,6 +92,8 @@ struct Counts {
     cases: [u64; CASES.len()],
     /// The pages of `ENTRY_PAGES` by each route.
     entries: [[u64; ENTRY_PAGES.len()]; ROUTES.len()],
+    /// The calls of `MARKED` by each route, as they came out.
+    marks: [[[u64; OUTCOMES.len()]; MARKED.len()]; ROUTES.len()],
     /// The calls and looks on the boards of `EDGES`, by each route, that gave the number they must.
     edges: [[[u64; ENTRIES]; ROUTES.len()]; EDGES.len()],
     /// The accesses of `ROWS` by each route, with each of `WIDTHS` and `VALUES`, that gave the number they must.
@@ -101,6 +104,7 @@ const NONE: Counts = Counts {
     numbers: [[0; NUMBERS]; KINDS.len()],
     cases: [0; CASES.len()],
     entries: [[0; ENTRY_PAGES.len()]; ROUTES.len()],
+    marks: [[[0; OUTCOMES.len()]; MARKED.len()]; ROUTES.len()],
     edges: [[[0; ENTRIES]; ROUTES.len()]; EDGES.len()],
     values: [[[[0; VALUES.len()]; WIDTHS.len()]; ROWS.len()]; ROUTES.len()],
 };
@@ -116,9 +120,11 @@ pub struct Coverage {
     /// Audits of boards, and the looks in them.
     pub audits: u64,
     pub audit_looks: u64,
-    /// Pairs of runs, and those in which a mark of the process differed: the others' accesses did move its lines.
+    /// Pairs of runs, and those in which a mark of the process differed, because the others' accesses did move its lines: a hit
+    /// in one run only; a refill in both, with a write-back in one only.
     pub pairs: u64,
-    pub pairs_apart: u64,
+    pub pairs_hit: u64,
+    pub pairs_write_back: u64,
 }
 
 impl Coverage {
@@ -133,7 +139,8 @@ impl Coverage {
             audits: 0,
             audit_looks: 0,
             pairs: 0,
-            pairs_apart: 0,
+            pairs_hit: 0,
+            pairs_write_back: 0,
         }
     }
 
@@ -141,6 +148,14 @@ impl Coverage {
     pub fn count_value(&mut self, fresh: bool, route: Route, Tried { row, width, value }: Tried) {
         let counts = if fresh { &mut self.fresh } else { &mut self.wild };
         counts.values[route as usize][row][width][value] += 1;
+    }
+
+    /// The mark of a call, as the random runs reach it.
+    pub fn count_mark(&mut self, fresh: bool, route: Route, marks::Marked { row, outcome }: marks::Marked) {
+        if self.planned.is_none() {
+            let counts = if fresh { &mut self.fresh } else { &mut self.wild };
+            counts.marks[route as usize][row][outcome] += 1;
+        }
     }
 
     pub fn count(&mut self, fresh: bool, deed: &Deed, route: Route, number: u32, cases: &[Case]) {
@@ -217,6 +232,14 @@ impl Coverage {
                     see(format_args!("the entry of page {page:#x} by the {route} route, on a {board} board"), count);
                 }
             }
+            for (counts, (_, route)) in counts.marks.iter_mut().zip(&ROUTES) {
+                for (row, (counts, (call, _))) in counts.iter_mut().zip(&MARKED).enumerate() {
+                    let outcomes = counts.iter_mut().zip(OUTCOMES);
+                    for (count, outcome) in outcomes.filter(|(_, outcome)| outcome.can_be(row, board == "fresh")) {
+                        see(format_args!("{call}: {outcome}, by the {route} route, on a {board} board"), count);
+                    }
+                }
+            }
             for (counts, Edge { words, .. }) in counts.edges.iter_mut().zip(&EDGES) {
                 for (counts, (_, route)) in counts.iter_mut().zip(&ROUTES) {
                     for (count, (call, _)) in counts.iter_mut().zip(&KINDS) {
@@ -243,7 +266,8 @@ impl Coverage {
         }
         see(format_args!("an audit of a fresh board"), &mut self.audits);
         see(format_args!("a pair of runs"), &mut self.pairs);
-        see(format_args!("a pair of runs whose marks differ"), &mut self.pairs_apart);
+        see(format_args!("a pair of runs with a hit in one only"), &mut self.pairs_hit);
+        see(format_args!("a pair of runs with a refill's write-back in one only"), &mut self.pairs_write_back);
     }
 
     /// What was not reached, and what was though no sequence of calls should.
@@ -276,6 +300,19 @@ impl Coverage {
                 write!(text, "{shown:>7}").expect(line);
             }
             self.routes.iter().for_each(|counts| write!(text, "{:>8}", counts[row]).expect(line));
+            text.push('\n');
+        }
+        write!(text, "\n{:26} refused", "calls by mark").expect(line);
+        (0..MARKS).for_each(|mark| write!(text, "{mark:>8}").expect(line));
+        text.push('\n');
+        for (row, (call, _)) in MARKED.iter().enumerate() {
+            write!(text, "{call:26}").expect(line);
+            for (index, outcome) in OUTCOMES.iter().enumerate() {
+                let by_route = self.fresh.marks.iter().chain(&self.wild.marks);
+                let count: u64 = by_route.map(|counts| counts[row][index]).sum();
+                let shown = if outcome.can_be(row, false) { count.to_string() } else { ".".into() };
+                write!(text, "{shown:>8}").expect(line);
+            }
             text.push('\n');
         }
         writeln!(text, "\n  fresh   wild  events").expect(line);

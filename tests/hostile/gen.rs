@@ -77,13 +77,22 @@ pub fn offsets(rng: &mut Rng) -> [usize; 5] {
     [0; 5].map(|_: usize| rng.below(OFFSETS as u64) as usize)
 }
 
-/// A fresh board: slots and words 0, no record valid, nothing pending. All else may be any bytes.
+/// A fresh board: slots and words 0, no record valid, nothing pending. All else may be any bytes; records may have all of a
+/// held line but that they are valid.
 pub fn fresh(rng: &mut Rng, shape: Shape) -> Start {
     let mut board = Board::fresh(shape);
     rng.fill(&mut board.memory);
     rng.fill(&mut board.cache);
-    if rng.flip() {
-        board.records.iter_mut().for_each(|word| *word = rng.next() & !1);
+    match rng.below(4) {
+        0 => board.records.iter_mut().for_each(|word| *word = rng.next() & !1),
+        1 => {
+            for (place, record) in (0..).zip(board.records.chunks_exact_mut(2)) {
+                let name = rng.below(NAMES_END);
+                record[0] = name - name % shape.lines + place;
+                record[1] = rng.below(LINES_PER_PAGE * shape.frames) * 8 + rng.below(4) * 2;
+            }
+        }
+        _ => {}
     }
     if rng.percent(25) {
         board.tag.1 = rng.next();

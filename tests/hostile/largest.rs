@@ -71,9 +71,13 @@ fn board(frames: u64, route: Route) -> Result<usize, String> {
     let mut done = 0;
     for call in calls(frames) {
         let expected = model.step(&call).0;
-        let answer = routes::call(&mut real, &call, &manner)?;
+        let told = routes::call(&mut real, &call, &manner)?;
+        let answer = told.answer;
         if answer != expected {
             return Err(format!("{call:?}: the library gives {answer:?}, the model {expected:?}"));
+        }
+        if let Some(problem) = told.disagrees() {
+            return Err(format!("{call:?}: {problem}"));
         }
         if !same(&real, &model) || !real.broken().is_empty() {
             return Err(format!("{call:?}: a buffer or its surroundings differ"));

@@ -9,6 +9,7 @@ mod gen;
 mod guarded;
 mod largest;
 mod limits;
+mod marks;
 mod pairs;
 mod plant;
 mod rng;
@@ -203,18 +204,21 @@ fn search_and_report(options: &Options) -> Result<(), String> {
         Err(Failure::Apart(traces, text)) => return Err(report_pair(&traces, &text)?),
     };
     println!("{}", coverage.table());
-    let Coverage { audits, audit_looks, pairs, pairs_apart, boards, .. } = coverage;
+    let Coverage { audits, audit_looks, pairs, pairs_hit, pairs_write_back, boards, .. } = coverage;
     println!("{} entries of pages", coverage.entries());
     println!("{} looks by themselves; {audits} audits of a fresh board with {audit_looks} looks", coverage.looks());
     println!("{edges} boards at the limits of P and L and past them, every call on each");
     println!("{values} boards with values at the ends of the widths, beside each number that an access gives");
-    println!("{pairs} pairs of runs, equal for process 0; in {pairs_apart} of them a hit mark differs");
+    println!(
+        "{pairs} pairs of runs, equal for process 0 but for marks; {pairs_hit} with a hit in one run only, \
+         {pairs_write_back} with a refill's write-back in one only"
+    );
     let problems = coverage.problems();
     if !problems.is_empty() {
         return Err(problems.join("\nhostile: "));
     }
     let calls = coverage.calls();
-    println!("hostile: {calls} calls on {boards} boards, all equal; every number and event reached");
+    println!("hostile: {calls} calls on {boards} boards, all equal; every number, mark and event reached");
     Ok(())
 }
 

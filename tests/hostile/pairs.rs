@@ -102,7 +102,11 @@ pub fn pair(rng: &mut Rng, coverage: &mut Coverage, plant: bool) -> Result<(), F
     second.step(audit, coverage)?;
     coverage.pairs += 1;
     let marks = |half: &Half| half.answers.iter().map(|answer| answer.mark).collect::<Vec<_>>();
-    coverage.pairs_apart += u64::from(marks(&first) != marks(&second));
+    let differ = |differs: fn(u32, u32) -> bool| {
+        u64::from(marks(&first).into_iter().zip(marks(&second)).any(|(one, two)| differs(one, two)))
+    };
+    coverage.pairs_hit += differ(|one, two| (one == HIT) != (two == HIT));
+    coverage.pairs_write_back += differ(|one, two| one != two && one != HIT && two != HIT);
     match tells_apart(&first, &second, own) {
         Some(text) => Err(Failure::Apart(Box::new([first.trace, second.trace]), text)),
         None => Ok(()),

@@ -1,12 +1,13 @@
 //! Planted faults: each one alters what the comparison sees of the library (or, where a check is between the model and the
 //! plain machine, of those), so that the self-test can show that the check behind it fails.
 
+use crate::cases::{Facts, Line};
 use crate::guarded::{Element, Guarded, Real};
 use crate::limits::end_of_width;
-use crate::routes::Looked;
+use crate::routes::{Looked, Told};
 use crate::run::Kind;
 use crate::values::{fitting, Access, Whose};
-use model::{Answer, Board, Call, Event, Plain, PlainAnswer, Record};
+use model::{mark, Answer, Board, Call, Event, Plain, PlainAnswer, Record};
 
 #[derive(Clone, Copy, Debug, PartialEq, Eq)]
 pub enum Plant {
@@ -14,6 +15,9 @@ pub enum Plant {
     Value,
     Mark,
     OffTable,
+    MarkOffTable,
+    Hit,
+    Packed,
     Unfit,
     Slots,
     Words,
@@ -34,6 +38,7 @@ pub enum Plant {
     PlainMemory,
     TwoCopies,
     Asks(Asks),
+    Marks(Marks),
     Panic,
     Signal,
     Hang,
@@ -60,11 +65,47 @@ pub enum Asks {
     Never,
 }
 
-pub const PLANTS: [(Plant, &str); 34] = [
+/// What has a wrong mark.
+#[derive(Clone, Copy, Debug, PartialEq, Eq)]
+pub enum Marks {
+    /// A miss has 0, as before CR 8.
+    OldMiss,
+    /// Prefix 0 has 0, as before CR 8.
+    OldUncached,
+    /// 2 and 3 are exchanged.
+    Exchanged,
+    /// 3 where the old line is held and not changed.
+    Clean,
+    /// 3 where the old record says changed, though it holds nothing.
+    Stale,
+    /// 2 where the write-back changes no byte.
+    Equal,
+    /// 2 where the write-back goes to the very line that is filled.
+    Own,
+    /// 3 for a hit on a changed line.
+    HitChanged,
+    /// 4 for prefix 1.
+    Prefix1,
+    /// 1 for prefix 0 where a held line has that very name.
+    UncachedHeld,
+    /// 1 for a refused access whose line is held.
+    RefusedHeld,
+    /// 2 for an access refused by 8.
+    RefusedMiss,
+    /// Load-and-map has the mark of an access.
+    Inserts,
+    /// 3 for unmap and flush all where they write back.
+    Sweeps,
+}
+
+pub const PLANTS: [(Plant, &str); 51] = [
     (Plant::Number, "number"),
     (Plant::Value, "value"),
     (Plant::Mark, "mark"),
     (Plant::OffTable, "off-table"),
+    (Plant::MarkOffTable, "mark-off-table"),
+    (Plant::Hit, "hit"),
+    (Plant::Packed, "packed"),
     (Plant::Unfit, "unfit"),
     (Plant::Slots, "slots"),
     (Plant::Words, "words"),
@@ -92,6 +133,20 @@ pub const PLANTS: [(Plant, &str); 34] = [
     (Plant::Asks(Asks::Cached), "asks-cached"),
     (Plant::Asks(Asks::Last), "asks-last"),
     (Plant::Asks(Asks::Never), "low-bits"),
+    (Plant::Marks(Marks::OldMiss), "mark-old-miss"),
+    (Plant::Marks(Marks::OldUncached), "mark-old-uncached"),
+    (Plant::Marks(Marks::Exchanged), "mark-exchanged"),
+    (Plant::Marks(Marks::Clean), "mark-clean"),
+    (Plant::Marks(Marks::Stale), "mark-stale"),
+    (Plant::Marks(Marks::Equal), "mark-equal"),
+    (Plant::Marks(Marks::Own), "mark-own"),
+    (Plant::Marks(Marks::HitChanged), "mark-hit-changed"),
+    (Plant::Marks(Marks::Prefix1), "mark-prefix-1"),
+    (Plant::Marks(Marks::UncachedHeld), "mark-uncached-held"),
+    (Plant::Marks(Marks::RefusedHeld), "mark-refused-held"),
+    (Plant::Marks(Marks::RefusedMiss), "mark-refused-miss"),
+    (Plant::Marks(Marks::Inserts), "mark-inserts"),
+    (Plant::Marks(Marks::Sweeps), "mark-sweeps"),
     (Plant::Panic, "panic"),
     (Plant::Signal, "signal"),
     (Plant::Hang, "hang"),
@@ -110,8 +165,9 @@ impl Plant {
         match self {
             Plant::Number | Plant::Unfit | Plant::Asks(_) => Kind::Number,
             Plant::Value => Kind::Value,
-            Plant::Mark => Kind::Mark,
-            Plant::OffTable => Kind::Table,
+            Plant::Mark | Plant::Marks(_) => Kind::Mark,
+            Plant::OffTable | Plant::MarkOffTable => Kind::Table,
+            Plant::Hit | Plant::Packed => Kind::Form,
             Plant::Slots | Plant::Words | Plant::Records | Plant::Cache | Plant::Memory => Kind::Buffer,
             Plant::Refused => Kind::Refused,
             Plant::TagName | Plant::TagSet => Kind::Tag,
@@ -126,20 +182,26 @@ impl Plant {
         }
     }
 
-    /// After a call: the library's board and answer, and the model's.
+    /// After a call, before which these were the facts: the library's board and what it told, and the model's.
     pub fn after_call(
         self,
         call: &Call,
+        facts: &Facts,
         event: Event,
-        (real, answer): (&mut Real, &mut Answer),
+        (real, told): (&mut Real, &mut Told),
         (model, expected): (&mut Board, &mut Answer),
     ) {
+        let answer = &mut told.answer;
         match (self, event) {
             (Plant::Asks(asks), _) => *answer = asks.answer(call, answer, model),
+            (Plant::Marks(marks), _) => answer.mark = marks.mark(call, facts.line(), event, answer.mark),
             (Plant::Number, Event::Refused(9)) => answer.number = 7,
             (Plant::Value, Event::Hit) if answer.value != 0 => answer.value ^= 0x100,
-            (Plant::Mark, Event::MissWriteBack) => answer.mark = 1,
+            (Plant::Mark, Event::MissWriteBack) => answer.mark = mark::HIT,
             (Plant::OffTable, Event::Refused(7)) => (answer.number, expected.number) = (11, 11),
+            (Plant::MarkOffTable, Event::FoundHeld) => (answer.mark, expected.mark) = (mark::HIT, mark::HIT),
+            (Plant::Hit, Event::MissWriteBack) => told.hit = told.hit.map(|_| 1),
+            (Plant::Packed, Event::Uncached) => told.packed = told.packed.map(|packed| packed | 1 << 40),
             (Plant::Unfit, Event::Refused(1)) => answer.number = 0,
             (Plant::Slots, Event::Done) if matches!(call, Call::Detach { .. }) => flip_last(&mut real.slots),
             (Plant::Words, Event::Protected { lines: 1.. }) => flip_last(&mut real.words),
@@ -225,6 +287,38 @@ impl Asks {
             (false, true) => Answer { number: 2, value: 0, mark: 0 },
             (true, false) => otherwise(),
             _ => *right,
+        }
+    }
+}
+
+impl Marks {
+    /// The wrong mark of a call, where `right` is the right one. An access and a load-and-map have a line, as it was before.
+    fn mark(self, call: &Call, line: Option<&Line>, event: Event, right: u32) -> u32 {
+        let is = |asked: fn(&Line) -> bool| line.is_some_and(asked);
+        let whose = Access::of(call).map(|access| access.whose);
+        match (self, event) {
+            (Marks::OldMiss, Event::Miss | Event::MissWriteBack) => mark::NO_ACCESS,
+            (Marks::OldUncached, Event::Uncached) => mark::NO_ACCESS,
+            (Marks::Exchanged, Event::Miss) => mark::WROTE_BACK,
+            (Marks::Exchanged, Event::MissWriteBack) => mark::REFILLED,
+            (Marks::Clean, Event::Miss) if is(|line| line.holds) => mark::WROTE_BACK,
+            (Marks::Stale, Event::Miss) if is(|line| line.record.changed) => mark::WROTE_BACK,
+            (Marks::Equal, Event::MissWriteBack) if is(|line| line.equal) => mark::REFILLED,
+            (Marks::Own, Event::MissWriteBack) if is(Line::of_this_line) => mark::REFILLED,
+            (Marks::HitChanged, Event::Hit) if is(|line| line.record.changed) => mark::WROTE_BACK,
+            (Marks::Prefix1, Event::Hit | Event::Miss | Event::MissWriteBack) if whose == Some(Whose::Prefix1) => {
+                mark::UNCACHED
+            }
+            (Marks::UncachedHeld, Event::Uncached) if is(Line::held) => mark::HIT,
+            (Marks::RefusedHeld, Event::Refused(_)) if whose.is_some() && is(Line::held) => mark::HIT,
+            (Marks::RefusedMiss, Event::Refused(8)) if whose.is_some() => mark::REFILLED,
+            (Marks::Inserts, Event::FoundHeld) => mark::HIT,
+            (Marks::Inserts, Event::Inserted { wrote_back: false }) => mark::REFILLED,
+            (Marks::Inserts, Event::Inserted { wrote_back: true }) => mark::WROTE_BACK,
+            (Marks::Sweeps, Event::Unmapped { written: 1.., .. } | Event::Flushed { written: 1.., .. }) => {
+                mark::WROTE_BACK
+            }
+            _ => right,
         }
     }
 }

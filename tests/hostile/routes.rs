@@ -3,9 +3,9 @@
 //! board of `Real`, or asks for the entry of a page, of no board.
 
 use crate::guarded::Real;
-use crate::limits::{FRAMES_MAX, LINES_MAX, LINE_BYTES, PROCESSES_MAX};
+use crate::limits::{FRAMES_MAX, HIT, LINES_MAX, LINE_BYTES, PROCESSES_MAX};
 use model::{Answer, Call, Shape};
-use oaledva::{ffi, Lent, Refusal};
+use oaledva::{ffi, Lent, Mark, Refusal};
 
 #[derive(Clone, Copy, Debug, PartialEq, Eq)]
 pub enum Route {
@@ -66,6 +66,29 @@ macro_rules! raw {
     };
 }
 
+/// What a call gave: the answer, and its other forms where the route has them.
+pub struct Told {
+    pub answer: Answer,
+    /// Whether it was a hit, 0 or 1: in C and by the safe crate.
+    pub hit: Option<u32>,
+    /// The answer as one number: in C.
+    pub packed: Option<u64>,
+}
+
+impl Told {
+    /// What disagrees with the answer. Packed, the value has bits 0 to 31, the mark 32 to 39, the number 56 to 63, and those
+    /// between are 0.
+    pub fn disagrees(&self) -> Option<String> {
+        let Answer { number, value, mark } = self.answer;
+        if let Some(hit) = self.hit.filter(|&hit| hit != u32::from(mark == HIT)) {
+            return Some(format!("the mark is {mark}, and asked whether it was a hit the library says {hit}"));
+        }
+        let right = u64::from(number) << 56 | u64::from(mark) << 32 | u64::from(value);
+        let wrong = self.packed.filter(|&packed| packed != right)?;
+        Some(format!("the answer packed is {wrong:#x}, and {right:#x} by its number, mark and value"))
+    }
+}
+
 /// What a look gave: the number where the route tells it, and where the bytes stand, with their length.
 pub struct Looked {
     pub number: Option<u32>,
@@ -121,6 +144,8 @@ struct CAnswer {
     number: u32,
     mark: u32,
     value: u32,
+    hit: u32,
+    packed: u64,
 }
 
 #[repr(C)]
@@ -132,7 +157,7 @@ struct CEntry {
 #[link(name = "through", kind = "static")]
 extern "C" {
     fn through_board_bytes() -> usize;
-    fn through_constants(constants: *mut [usize; 17]);
+    fn through_constants(constants: *mut [usize; CONSTANTS]);
     fn through_lengths(frames: usize, processes: usize, lines: usize, lengths: *mut [usize; 5]);
     fn through_user_access(
         b: *mut CBoard,
@@ -166,8 +191,12 @@ extern "C" {
     fn through_entry_of_page(page: u64) -> CEntry;
 }
 
-/// The refusal numbers by the names of the Rust crate, from 1 to 13, then the limits, by the documents.
-fn constants() -> [usize; 17] {
+/// How many of the header's names are compared.
+const CONSTANTS: usize = 22;
+
+/// The refusal numbers by the names of the Rust crate, from 1 to 13, and its marks, from 0 to 4; then the limits, by the
+/// documents.
+fn constants() -> [usize; CONSTANTS] {
     let refusals = [
         Refusal::Shape,
         Refusal::Range,
@@ -183,11 +212,13 @@ fn constants() -> [usize; 17] {
         Refusal::Outside,
         Refusal::OtherLine,
     ];
-    let mut all = [0; 17];
-    for (number, refusal) in all.iter_mut().zip(refusals) {
-        *number = refusal.number() as usize;
+    let marks = [Mark::NoAccess, Mark::Hit, Mark::Refilled, Mark::WroteBack, Mark::Uncached];
+    let limits = [FRAMES_MAX, PROCESSES_MAX, LINES_MAX, LINE_BYTES];
+    let numbers = refusals.map(Refusal::number).into_iter().chain(marks.map(Mark::number)).map(u64::from);
+    let mut all = [0; CONSTANTS];
+    for (constant, number) in all.iter_mut().zip(numbers.chain(limits)) {
+        *constant = number as usize;
     }
-    all[13..].copy_from_slice(&[FRAMES_MAX, PROCESSES_MAX, LINES_MAX, LINE_BYTES].map(|limit| limit as usize));
     all
 }
 
@@ -197,11 +228,11 @@ pub fn header_disagrees() -> Option<String> {
     if theirs != ours {
         return Some(format!("oaledva_board has {theirs} bytes, the test's mirror of it {ours}"));
     }
-    let mut theirs = [0; 17];
+    let mut theirs = [0; CONSTANTS];
     unsafe { through_constants(&mut theirs) };
     let ours = constants();
     if theirs != ours {
-        return Some(format!("the header's refusal numbers and limits are {theirs:?}, the documents' {ours:?}"));
+        return Some(format!("the header's numbers, marks and limits are {theirs:?}, the documents' {ours:?}"));
     }
     let fresh = model::Board::fresh(Shape { frames: 3, uncached: 1, processes: 2, lines: 8 }).lengths();
     let ours = [fresh.slots, fresh.words, fresh.records, fresh.cache, fresh.memory].map(|length| length as usize);
@@ -217,7 +248,7 @@ pub fn safe_can_carry(real: &Real) -> bool {
 }
 
 /// Brings a call. `Err` where the C side wrote where it may not: over its board's numbers, pointers or surroundings.
-pub fn call(real: &mut Real, call: &Call, manner: &Manner) -> Result<Answer, String> {
+pub fn call(real: &mut Real, call: &Call, manner: &Manner) -> Result<Told, String> {
     match manner.route {
         Route::Raw => Ok(unsafe { raw_call(real, call, manner) }),
         Route::Header | Route::Board => caged(real, manner, |board| unsafe { c_call(board, call, manner) }),
@@ -282,7 +313,7 @@ pub fn entry(page: u64, route: Route) -> (u32, u64) {
 
 // ----- raw -----
 
-unsafe fn raw_call(real: &mut Real, call: &Call, manner: &Manner) -> Answer {
+unsafe fn raw_call(real: &mut Real, call: &Call, manner: &Manner) -> Told {
     let b = CBoard::of(real, manner.null);
     let (set, name) = (real.set.pointer(false), real.name.pointer(false));
     let kind = |store| ffi::Kind { store: manner.flag(store) };
@@ -306,7 +337,8 @@ unsafe fn raw_call(real: &mut Real, call: &Call, manner: &Manner) -> Answer {
         Call::LoadAndMap { line } => raw!(b, oaledva_load_and_map, set, name, line as usize),
         Call::DropTag => raw!(b, oaledva_drop_tag, set, name),
     };
-    Answer { number: answer.number(), mark: answer.mark().into(), value: answer.value() }
+    let answer = Answer { number: answer.number(), mark: answer.mark(), value: answer.value() };
+    Told { answer, hit: None, packed: None }
 }
 
 // ----- through C -----
@@ -358,9 +390,9 @@ pub fn cage_shows(real: &mut Real) -> bool {
         && !shows(|cage| cage.board.tag.name ^= 1)
 }
 
-unsafe fn c_call(b: *mut CBoard, call: &Call, manner: &Manner) -> Answer {
+unsafe fn c_call(b: *mut CBoard, call: &Call, manner: &Manner) -> Told {
     let by_board = manner.by_board();
-    let answer = match *call {
+    let CAnswer { number, mark, value, hit, packed } = match *call {
         Call::UserAccess { process, store, width, address, value } => {
             through_user_access(b, by_board, process as usize, manner.flag(store), width, address, value)
         }
@@ -379,7 +411,7 @@ unsafe fn c_call(b: *mut CBoard, call: &Call, manner: &Manner) -> Answer {
         Call::LoadAndMap { line } => through_load_and_map(b, by_board, line as usize),
         Call::DropTag => through_drop_tag(b, by_board),
     };
-    Answer { number: answer.number, mark: answer.mark, value: answer.value }
+    Told { answer: Answer { number, mark, value }, hit: Some(hit), packed: Some(packed) }
 }
 
 // ----- the safe crate -----
@@ -403,7 +435,7 @@ fn lent(real: &mut Real) -> Lent<'_> {
     )
 }
 
-fn safe_call(real: &mut Real, call: &Call) -> Answer {
+fn safe_call(real: &mut Real, call: &Call) -> Told {
     let mut board = lent(real);
     let done: Result<u32, Refusal> = match *call {
         Call::UserAccess { process, store: false, width, address, .. } => board.load(process as usize, width, address),
@@ -426,12 +458,10 @@ fn safe_call(real: &mut Real, call: &Call) -> Answer {
         Call::LoadAndMap { line } => board.load_and_map(line as usize).map(|()| 0),
         Call::DropTag => board.drop_tag().map(|()| 0),
     };
-    let (mark, pending) = (u32::from(board.hit()), board.pending());
+    let (mark, hit, pending) = (board.mark().number(), u32::from(board.hit()), board.pending());
     if matches!(call, Call::Tag { .. } | Call::LoadAndMap { .. } | Call::DropTag) {
         real.set_tag(u32::from(pending.is_some()), pending.unwrap_or(0));
     }
-    match done {
-        Ok(value) => Answer { number: 0, mark, value },
-        Err(refusal) => Answer { number: refusal.number(), mark, value: 0 },
-    }
+    let (number, value) = done.map_or_else(|refusal| (refusal.number(), 0), |value| (0, value));
+    Told { answer: Answer { number, mark, value }, hit: Some(hit), packed: None }
 }

@@ -5,6 +5,7 @@ use crate::cases::{self, Facts};
 use crate::coverage::{self, Coverage};
 use crate::guarded::{Element, Real};
 use crate::limits::{LINES_PER_PAGE, LINE_BYTES};
+use crate::marks;
 use crate::plant::Plant;
 use crate::routes::{self, Manner, Route};
 use crate::trace::{Deed, Start, Step, Trace};
@@ -19,6 +20,7 @@ pub enum Kind {
     Value,
     Mark,
     Table,
+    Form,
     Canary,
     Buffer,
     Tag,
@@ -140,10 +142,11 @@ impl Run {
         let (mut expected, event) = self.model.step(call);
         let (set, _) = self.real.tag();
         let outcome = routes::call(&mut self.real, call, manner);
-        let mut answer = outcome.map_err(|text| differs(Kind::Canary, text))?;
+        let mut told = outcome.map_err(|text| differs(Kind::Canary, text))?;
         if let Some(plant) = self.plant {
-            plant.after_call(call, event, (&mut self.real, &mut answer), (&mut self.model, &mut expected));
+            plant.after_call(call, &facts, event, (&mut self.real, &mut told), (&mut self.model, &mut expected));
         }
+        let answer = told.answer;
         same(Kind::Number, "number", answer.number, expected.number, "the model")?;
         same(Kind::Value, "value", answer.value, expected.value, "the model")?;
         same(Kind::Mark, "mark", answer.mark, expected.mark, "the model")?;
@@ -151,11 +154,19 @@ impl Run {
         if !coverage::in_table(&deed, answer.number) {
             return Err(differs(Kind::Table, format!("01 has no number {} for this call", answer.number)));
         }
+        let Some(marked) = marks::marked(call, answer.number, answer.mark) else {
+            let Answer { number, mark, .. } = answer;
+            return Err(differs(Kind::Table, format!("CR 8 has no mark {mark} for this call with number {number}")));
+        };
+        if let Some(text) = told.disagrees() {
+            return Err(differs(Kind::Form, text));
+        }
         self.same_tag(set)?;
         self.same_buffers(answer.number != 0)?;
         self.same_as_plain(call, &answer, event)?;
         cases.extend(cases::cases_of(&facts, call, event));
         coverage.count(self.fresh, &deed, manner.route, answer.number, &cases);
+        coverage.count_mark(self.fresh, manner.route, marked);
         if let Some(tried) = values::tried(&self.model, call, event, answer.number) {
             coverage.count_value(self.fresh, manner.route, tried);
         }

@@ -23,10 +23,10 @@ pub fn all() -> Result<(), String> {
     for (plant, name) in PLANTS.into_iter().filter(|(plant, _)| *plant != Plant::Hang) {
         let (found, left) =
             quietly(|| planted(plant)).map_err(|problem| format!("planted fault '{name}': {problem}"))?;
-        println!("planted fault {name:13} found at step {found:3} of its run, shrunk to {left} steps, replayed");
+        println!("planted fault {name:18} found at step {found:3} of its run, shrunk to {left} steps, replayed");
     }
     hang()?;
-    println!("planted fault hang          ended by a signal");
+    println!("planted fault hang               ended by a signal");
     planted_pair()?;
     println!("planted fault in a pair of runs found");
     planted_in(edges::edges, &[Plant::Slots, Plant::Unfit])?;

@@ -3,11 +3,13 @@
 #include <stdbool.h>
 
 typedef struct through_answer {
-    uint32_t number, mark, value;
+    uint32_t number, mark, value, hit;
+    uint64_t packed;
 } through_answer;
 
 static through_answer unpacked(oaledva_answer answer) {
-    through_answer parts = {oaledva_number(answer), oaledva_mark(answer), oaledva_value(answer)};
+    through_answer parts = {oaledva_number(answer), oaledva_mark(answer).mark, oaledva_value(answer),
+                            (uint32_t)oaledva_hit(answer), answer.packed};
     return parts;
 }
 
@@ -22,15 +24,18 @@ void through_lengths(size_t frames, size_t processes, size_t lines, size_t lengt
     lengths[4] = OALEDVA_MEMORY(frames);
 }
 
-/* The refusal numbers by their names, 1 to 13, then the limits. */
-void through_constants(size_t constants[17]) {
-    static const size_t all[17] = {
+/* The refusal numbers by their names, 1 to 13, then the marks, 0 to 4, then the limits. */
+enum { CONSTANTS = 22 };
+
+void through_constants(size_t constants[CONSTANTS]) {
+    static const size_t all[CONSTANTS] = {
         OALEDVA_SHAPE, OALEDVA_RANGE, OALEDVA_TAG, OALEDVA_ALIGNMENT, OALEDVA_KERNEL, OALEDVA_SLOT_EMPTY,
         OALEDVA_SLOT_READ_ONLY, OALEDVA_NOT_MAPPED, OALEDVA_PAGE_READ_ONLY, OALEDVA_FRAME_IN_USE,
-        OALEDVA_MAPPED_ALREADY, OALEDVA_OUTSIDE, OALEDVA_OTHER_LINE, OALEDVA_FRAMES_MAX, OALEDVA_PROCESSES_MAX,
-        OALEDVA_LINES_MAX, OALEDVA_LINE_BYTES,
+        OALEDVA_MAPPED_ALREADY, OALEDVA_OUTSIDE, OALEDVA_OTHER_LINE, OALEDVA_NO_ACCESS, OALEDVA_HIT, OALEDVA_REFILLED,
+        OALEDVA_WROTE_BACK, OALEDVA_UNCACHED, OALEDVA_FRAMES_MAX, OALEDVA_PROCESSES_MAX, OALEDVA_LINES_MAX,
+        OALEDVA_LINE_BYTES,
     };
-    for (int i = 0; i < 17; i++) constants[i] = all[i];
+    for (int i = 0; i < CONSTANTS; i++) constants[i] = all[i];
 }
 
 /* The entry of a page asks no board, so there is one function for both routes. */

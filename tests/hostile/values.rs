@@ -115,7 +115,7 @@ fn is_large(width: u32, value: u32) -> bool {
     end_of_width(width).is_some_and(|end| u64::from(value) >= end)
 }
 
-/// What CR 2 asks of an access.
+/// What CR 2 asks of an access, and whose it is.
 #[derive(Clone, Copy)]
 pub struct Access {
     pub whose: Whose,

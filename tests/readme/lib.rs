@@ -1,5 +1,5 @@
 // The Rust programs of the READMEs: build.rs has put each into a module of its own, with a test that runs it. And README's
-// table of limits, against the crate's.
+// tables of limits and of marks, against the crate's and the header's.
 #![deny(warnings)]
 
 #[cfg(test)]
@@ -25,5 +25,18 @@ fn limits_are_the_crate_s() {
     ] {
         let row = format!("| {number} | 1 to {}{end} |", written(most));
         assert!(readme.lines().any(|line| line.starts_with(&row)), "README.md has no row {row}");
+    }
+}
+
+#[test]
+fn marks_are_the_crate_s_and_the_header_s() {
+    use oaledva::Mark;
+    let (readme, header) = (include_str!("../../README.md"), include_str!("../../include/oaledva.h"));
+    for number in 0..=4 {
+        let (begins, ends) = (format!("| {number} | "), format!("` | `Mark::{:?}` |", Mark::of(number)));
+        let rows = readme.lines().filter(|line| line.starts_with(&begins));
+        let in_c = rows.filter_map(|row| row.strip_suffix(&ends)?.rsplit_once('`')).map(|(_, name)| name).next();
+        let name = in_c.unwrap_or_else(|| panic!("README.md has no row {begins}...{ends}"));
+        assert!(header.contains(&format!("\n    {name} = {number}")), "README.md names mark {number} {name} in C");
     }
 }

@@ -1,3 +1,4 @@
 pub mod Bools
 pub mod Lists
 pub mod Shapes
+pub mod Marks

@@ -1,7 +1,7 @@
 // 01, "The board": F, U, P and L, their limits and the lengths of the buffers (number 1), and what calls and searches give.
 ghost use mathlib.Core.Path.{_≡_};
 ghost use Prim.Native.Nat.{_≤_};
-ghost use Rattle.board.specs.Answers.{answer};
+ghost use Rattle.board.specs.Answers.{answer, markOf};
 ghost use Rattle.board.specs.Lists.{bit};
 ghost use Rattle.board.specs.Shapes.{limitsHold, lengthsAgree, fitsShape, maxFrames, maxProcesses, maxLines};
 
@@ -19,7 +19,7 @@ pub struct Pending {
     pub name: u64,
 }
 
-// What a call gives: 01's number, the value, the hit mark.
+// What a call gives: 01's number, the value, and the mark, which says how an access went.
 pub struct Answer {
     pub number: u32,
     pub value: u32,
@@ -34,6 +34,40 @@ pub fn numbered(number: u32) -> Answer
         number: number,
         value: 0,
         mark: 0,
+    }
+}
+
+// The marks of accesses that are done (CR 8): the line was held; it was refilled; it was refilled, and the line that stood
+// there written back; the cache wasn't asked.
+pub const HIT: u32 = 1;
+
+pub const REFILLED: u32 = 2;
+
+pub const WROTE_BACK: u32 = 3;
+
+pub const UNCACHED: u32 = 4;
+
+// The mark of an access by the cache: was its line held when it came, and was a line written back in that call.
+pub fn mark_of(held: bool, back: bool) -> u32
+    ensures { λ r. ⌜ r ≡ markOf held back ⌝ }
+{
+    if held {
+        return HIT;
+    }
+    if back {
+        return WROTE_BACK;
+    }
+    REFILLED
+}
+
+// An access that is done: its value and its mark.
+pub fn accessed(value: u32, mark: u32) -> Answer
+    ensures { λ r. ⌜ r ≡ answer 0 value mark ⌝ }
+{
+    Answer {
+        number: 0,
+        value: value,
+        mark: mark,
     }
 }
 

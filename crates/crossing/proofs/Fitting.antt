@@ -1,5 +1,5 @@
--- The answers of the calls fit the packing: a refusal has one of the numbers of its table, and an access gives mark 0 or 1.
-use Prim.Native.Nat.{ℕ}
+-- The answers of the calls fit the packing: a refusal has one of the numbers of its table, and every mark is below 5.
+use Prim.Native.Nat.{ℕ, _<_}
 use mathlib.Core.Path.{_≡_, refl, sym, subst}
 use mathlib.Core.Bool.{Bool, true, false, _&&_, cond}
 use mathlib.Core.List.{List, [], _∷_}
@@ -12,6 +12,7 @@ use Rattle.address.specs.declared.Global.{Global}
 use Rattle.address.specs.declared.Physical.{Physical}
 use Rattle.address.specs.declared.Region.{Region}
 use Rattle.address.specs.declared.Region.the-variants.{Uncached, Cached, PageTable, Ordinary}
+use Rattle.board.specs.Answers.{markOf}
 use Rattle.board.specs.declared.Answer.{Answer}
 use Rattle.board.specs.declared.Shape.{Shape}
 use Rattle.board.proofs.Bools.{and-left, and-right}
@@ -23,13 +24,13 @@ use Rattle.machine.specs.Boards.{Board, Outcome, outcome, refused}
 use Rattle.machine.specs.Refusals.{Row, byTable}
 use Rattle.machine.specs.Accesses.{performedOn, accessedBy, accessed, memoryAccess, supervisorDone, userTable, supervisorTable, userAccess, supervisorAccess}
 use Rattle.machine.specs.Calls.{attach, detach, mapPage, unmap, protect, flushAll, tag, loadAndMap, dropTag}
-use Rattle.crossing.specs.Packing.{Small}
+use Rattle.crossing.specs.Packing.{byteEnd, Small}
 use Rattle.crossing.specs.Answers.{AnswersFit}
 
--- every number of a table is below 16
+-- every number of a table fits a byte
 lowRows : List Row → Bool
 lowRows [] = true
-lowRows (r ∷ rows) = ltb (r .number) 16 && lowRows rows
+lowRows (r ∷ rows) = ltb (r .number) byteEnd && lowRows rows
 
 small-either : (t : Bool) (x y : Outcome) → Small (x .answer) → Small (y .answer) → Small (cond t x y .answer)
 small-either true x y p q = p
@@ -39,18 +40,24 @@ small-table : (b : Board) (rows : List Row) (d : Outcome) → lowRows rows ≡ t
 unfolding byTable lowRows
 small-table b [] d e z = z
 small-table b (r ∷ rows) d e z =
-    let n = ltb-true (r .number) 16 (and-left (ltb (r .number) 16) (lowRows rows) e) in
+    let n = ltb-true (r .number) byteEnd (and-left (ltb (r .number) byteEnd) (lowRows rows) e) in
     small-either (r .applies) (refused b (r .number)) (byTable (refused b) rows d)
     (record { number-below = n; mark-below = omega arith })
-    (small-table b rows d (and-right (ltb (r .number) 16) (lowRows rows) e) z)
+    (small-table b rows d (and-right (ltb (r .number) byteEnd) (lowRows rows) e) z)
 
 small-zero : {a : Answer} → a .number ≡ 0 → a .mark ≡ 0 → Small a
 small-zero n m = record { number-below = omega arith; mark-below = omega arith }
 
+small-mark : (held back : Bool) → markOf held back < byteEnd
+unfolding markOf
+small-mark true back = omega arith
+small-mark false true = omega arith
+small-mark false false = omega arith
+
 small-way : (s : Shape) (name offset : ℕ) (a : Access) (b : Store) (w : Way) → Small (accessedBy s name offset a b w .answer)
 unfolding accessedBy performedOn
-small-way s name offset a b (Held i write) = record { number-below = omega arith; mark-below = omega arith }
-small-way s name offset a b (InMemory line write) = record { number-below = omega arith; mark-below = omega arith }
+small-way s name offset a b (Held i write) = record { number-below = omega arith; mark-below = small-mark true false }
+small-way s name offset a b (InMemory line write) = record { number-below = omega arith; mark-below = small-mark false _ }
 small-way s name offset a b Missing = record { number-below = omega arith; mark-below = omega arith }
 
 small-line : (s : Shape) (words : List ℕ) (g : Global) (a : Access) (b : Store) → Small (accessed s words g a b .answer)

@@ -1,5 +1,5 @@
 -- The packing: nothing is lost, and a call's outcome crosses as it is.
-use Prim.Native.Nat.{ℕ, _+_, _*_, _/_, _%_, _<_, _^_}
+use Prim.Native.Nat.{ℕ, _+_, _*_, _/_, _%_, _<_}
 use mathlib.Core.Path.{_≡_, refl, _∙_, sym, ap}
 use mathlib.Core.Bool.{Bool, true, false, not, cond}
 use mathlib.Core.List.{List}
@@ -9,28 +9,36 @@ use borrow.Author.Tests.{ne-eqb}
 use Rattle.board.specs.declared.Answer.{Answer}
 use Rattle.board.specs.declared.Pending.{Pending}
 use Rattle.machine.specs.Boards.{Board, board, Outcome, outcome}
-use Rattle.crossing.specs.Packing.{packed, unpacked, Small, NothingLost, isYes, wordAfter, tagOf}
+use Rattle.crossing.specs.Packing.{markUnit, roomUnit, numberUnit, byteEnd, packed, unpacked, Small, NothingLost, isYes, wordAfter, tagOf}
 
-pub packs : (a : Answer) → Small a → a .value < 2 ^ 32
-    → unpacked (a .number * 8589934592 + a .mark * 4294967296 + a .value) ≡ a
+pub packs : (a : Answer) → Small a → a .value < markUnit → unpacked (a .number * numberUnit + a .mark * markUnit + a .value) ≡ a
 unfolding unpacked
 packs a z v =
-    let r = a .number * 8589934592 + a .mark * 4294967296 + a .value in
-    let n : r / 8589934592 ≡ a .number = omega (arith, z .mark-below) in
-    let m : r / 4294967296 % 2 ≡ a .mark = omega (arith, z .mark-below) in
-    let w : r % 4294967296 ≡ a .value = omega arith in
+    let r = a .number * numberUnit + a .mark * markUnit + a .value in
+    let n : r / numberUnit ≡ a .number = omega (arith, z .mark-below) in
+    let m : r / markUnit % (numberUnit / markUnit) ≡ a .mark = omega (arith, z .mark-below) in
+    let w : r % markUnit ≡ a .value = omega arith in
     rw (n, m, w)
 
 packs-back : (r : ℕ) → packed (unpacked r) ≡ r
 unfolding packed unpacked
 packs-back r = omega arith
 
-packs-all : (a : Answer) → Small a → a .value < 2 ^ 32 → unpacked (packed a) ≡ a
+packs-all : (a : Answer) → Small a → a .value < markUnit → unpacked (packed a) ≡ a
 unfolding packed
 packs-all a z v = packs a z v
 
+-- a mark that fits its byte leaves nothing above it
+mark-is-byte : (r : ℕ) → Small (unpacked r) → r / markUnit % byteEnd ≡ unpacked r .mark
+unfolding unpacked
+mark-is-byte r z = omega (arith, z .mark-below)
+
+room-is-zero : (r : ℕ) → Small (unpacked r) → r / roomUnit % (numberUnit / roomUnit) ≡ 0
+unfolding unpacked
+room-is-zero r z = omega (arith, z .mark-below)
+
 pub nothing-lost : NothingLost
-nothing-lost = record { answers = packs-all; numbers = packs-back }
+nothing-lost = record { answers = packs-all; numbers = packs-back; mark-byte = mark-is-byte; room = room-is-zero }
 
 -- the outcome, with its answer read off the number
 pub crosses : (a : Answer) (b : Board) (o : Outcome) (r : ℕ) → outcome a b ≡ o → unpacked r ≡ a → outcome (unpacked r) b ≡ o

@@ -1,4 +1,4 @@
--- Of every answer that a call gives, whatever the board, the number is below 16 and the mark below 2.
+-- Of every answer that a call gives, whatever the board, number and mark fit their bytes.
 -- (The value is below 2^32 because it is a `u32` in the code.)
 use Prim.Native.Nat.{ℕ}
 use mathlib.Core.Bool.{Bool}

@@ -1,4 +1,4 @@
-// How answers, flags and the entry of a page cross to C and Rust: an answer as one number, number * 2^33 + mark * 2^32 + value;
+// How answers, flags and the entry of a page cross to C and Rust: an answer as one number, number * 2^56 + mark * 2^32 + value;
 // an entry as number * 2^44 + its global address.
 ghost use mathlib.Core.Path.{_≡_};
 ghost use Rattle.crossing.specs.Packing.{unpacked, Small, wordAfter};
@@ -7,7 +7,7 @@ use address::Entry;
 use address::GLOBAL_END;
 use board::Answer;
 
-const NUMBER_UNIT: u64 = 8589934592;
+const NUMBER_UNIT: u64 = 72057594037927936;
 
 const MARK_UNIT: u64 = 4294967296;
 

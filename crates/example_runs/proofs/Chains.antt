@@ -9,6 +9,7 @@ use lib.ListN.{length, getD, set, replicate}
 use lib.Seq.{getD-set-same, getD-set-other, set-out}
 use lib.Dec.{eqb, ltb}
 use borrow.Author.Tests.{eqb-true, eqb-false, ltb-true, ltb-false}
+use Rattle.board.specs.Answers.{markRefilled, markOf}
 use Rattle.board.specs.declared.Shape.{Shape}
 use Rattle.board.specs.declared.Answer.{Answer}
 use Rattle.board.proofs.Bools.{or-left, or-right, or-false}
@@ -16,7 +17,7 @@ use Rattle.board.specs.Shapes.{recordWords}
 use Rattle.slots.specs.Slots.{slotIndex}
 use Rattle.lines.specs.Records.{lineAt, noLine}
 use Rattle.lines.specs.Holds.{holdsLine, holdsAt}
-use Rattle.stores.specs.Stores.{store, writtenBack}
+use Rattle.stores.specs.Stores.{store, mustWriteBack, writtenBack}
 use Rattle.machine.specs.Boards.{Board, outcome}
 use Rattle.store_laws.proofs.Zeroed.{zeros-at}
 use Rattle.promises.specs.Runs.{Call, user, supervisor, step, after, Reply, reply, replies}
@@ -34,6 +35,10 @@ fresh-line count i = rw (zeros-at count (recordWords * i), zeros-at count (recor
 pub none-written : (s : Shape) (i : ℕ) (r c m : List ℕ) → lineAt r i ≡ noLine → writtenBack 1 s i (store r c m) ≡ store r c m
 unfolding holdsLine holdsAt writtenBack
 none-written s i r c m h = rw h
+
+pub none-marked : (s : Shape) (i : ℕ) (r : List ℕ) → lineAt r i ≡ noLine → markOf false (mustWriteBack 1 s r i) ≡ markRefilled
+unfolding holdsLine holdsAt markOf
+none-marked s i r h = rw h
 
 -- ---- calls, one after the other
 

@@ -14,7 +14,7 @@ use borrow.Author.Tests.{eqb-true, eqb-false}
 use Rattle.address.specs.Layout.{pageLines}
 use Rattle.address.specs.Addresses.{regionOf}
 use Rattle.board.specs.declared.Shape.{Shape}
-use Rattle.board.specs.Answers.{answer}
+use Rattle.board.specs.Answers.{answer, markOf}
 use Rattle.board.specs.Shapes.{fitsShape}
 use Rattle.board.proofs.Bools.{clash}
 use Rattle.board.proofs.Shapes.{limited}
@@ -46,7 +46,7 @@ use Rattle.promises.proofs.Soundness.{fresh-zeros}
 use Rattle.promises.proofs.Demand3.{demand3}
 use Rattle.example_runs.specs.Examples.{load}
 use Rattle.example_runs.specs.Copies.{LinesInStep, MappedInStep, FewLinesOnce, shape, directLine, pageLine, memory, twice, TwoCopies, start, directStore, used, handed, undropped, OneCopyKept}
-use Rattle.example_runs.proofs.Chains.{fresh-line, none-written, Does, Ran, ended, _then_, ran-answers, ran-after}
+use Rattle.example_runs.proofs.Chains.{fresh-line, none-written, none-marked, Does, Ran, ended, _then_, ran-answers, ran-after}
 
 -- ---- 256 lines or fewer
 
@@ -157,8 +157,8 @@ swept r c m = visitedAll 1 shape (Map 0x200001 0) (store r c m)
 abbrev cache1 : List ℕ
 cache1 = stored (withLine (zeros 8192) 0 (lineOf memory 0)) 0 4 50
 
-does-direct : Does shape start directStore (answer 0 0 0) (untagged slots0 0 one cache1 memory)
-unfolding ones onesIn fitsShape mappedTo homeBy directHome freeFrame homeOf lineAt putLine holdsLine holdsAt holderFrom holderOf writtenBack filled noted inserted performedAt wayByHome wayBy wayOf unreached byTable tooLarge alignedTo isOrdinary isCached outside performedOn accessedBy accessed regionOf supervisorTable supervisorDone supervisorAccess supervise step
+does-direct : Does shape start directStore (answer 0 0 2) (untagged slots0 0 one cache1 memory)
+unfolding ones onesIn fitsShape mappedTo homeBy directHome freeFrame homeOf lineAt putLine holdsLine holdsAt holderFrom holderOf writtenBack filled noted inserted performedAt wayByHome wayBy wayOf unreached byTable tooLarge alignedTo isOrdinary isCached outside markOf performedOn accessedBy accessed regionOf supervisorTable supervisorDone supervisorAccess supervise step
 does-direct = record { does = rw (length-zeros 8192, length-memory) }
 
 module _ (r c m : List ℕ) (records-are : length r ≡ 1024) (cache-is : length c ≡ 8192) (memory-is : length m ≡ 4096) where
@@ -178,10 +178,10 @@ module _ (r c m : List ℕ) (records-are : length r ≡ 1024) (cache-is : length
   loaded-byte = zero-add _ ∙ copied-at c m 256 0 (omega arith) (omega arith) 3 (omega arith)
 
   does-load : lineAt r 256 ≡ noLine
-      → Does shape (untagged slots1 (frameWord 0x200001 true) r c m) (load 0 0x1003) (answer 0 (getD m 3 0) 0)
+      → Does shape (untagged slots1 (frameWord 0x200001 true) r c m) (load 0 0x1003) (answer 0 (getD m 3 0) 2)
       (untagged slots1 (frameWord 0x200001 true) (putLine r 256 pageLine) (withLine c 256 (lineOf m 0)) m)
   unfolding ones onesIn fitsShape lowestFrom lowestFrame mappedTo homeBy homeOf holdsLine holdsAt holderFrom holderOf filled noted inserted performedAt wayByHome wayBy wayOf unreached mayWrite byTable tooLarge alignedTo performedOn accessedBy accessed userTable userAccess step
-  does-load h = record { does = rw (records-are, cache-is, memory-is, h, none-written shape 256 r c m h, loaded-byte) }
+  does-load h = record { does = rw (records-are, cache-is, memory-is, h, none-written shape 256 r c m h, none-marked shape 256 r h, loaded-byte) }
 
 cache1-is : length cache1 ≡ 8192
 cache1-is = length-stored _ 0 4 50 ∙ length-line (zeros 8192) 0 (lineOf memory 0) ∙ length-zeros 8192
@@ -206,7 +206,7 @@ swept-second = swept-at 256 (omega arith) ∙ rw one-second
 
 -- the process uses the frame, from records and bytes of these lengths whose record 256 holds nothing
 module _ (r c m : List ℕ) (records-are : length r ≡ 1024) (cache-is : length c ≡ 8192) (memory-is : length m ≡ 4096) (free : lineAt r 256 ≡ noLine) where
-  ran-used : Ran shape (untagged slots0 (frameWord 0x200001 true) r c m) used (answer 0 0 0 ∷ answer 0 (getD m 3 0) 0 ∷ [])
+  ran-used : Ran shape (untagged slots0 (frameWord 0x200001 true) r c m) used (answer 0 0 0 ∷ answer 0 (getD m 3 0) 2 ∷ [])
       (untagged slots1 (frameWord 0x200001 true) (putLine r 256 pageLine) (withLine c 256 (lineOf m 0)) m)
   ran-used = does-attach r c m records-are cache-is memory-is then does-load r c m records-are cache-is memory-is free then ended
 
@@ -222,7 +222,7 @@ swept-memory-is = swept-one .memory-length ∙ length-memory
 zeroed-byte : getD zeroed 3 0 ≡ 0
 zeroed-byte = zeroed-in (sweptOne .memory) 0 3 refl (omega (arith, swept-memory-is))
 
-ran-handed : Ran shape start handed (answer 0 0 0 ∷ answer 0 0 0 ∷ answer 0 0 0 ∷ answer 0 (getD zeroed 3 0) 0 ∷ [])
+ran-handed : Ran shape start handed (answer 0 0 2 ∷ answer 0 0 0 ∷ answer 0 0 0 ∷ answer 0 (getD zeroed 3 0) 2 ∷ [])
     (untagged slots1 (frameWord 0x200001 true) (putLine (sweptOne .records) 256 pageLine) (withLine (sweptOne .cache) 256 (lineOf zeroed 0)) zeroed)
 ran-handed =
     does-direct then does-map one cache1 memory length-one cache1-is length-memory

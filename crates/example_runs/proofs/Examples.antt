@@ -11,7 +11,7 @@ use lib.Seq.{take-all}
 use lib.Count.{ones, onesIn}
 use lib.Dec.{eqb}
 use borrow.Author.Tests.{eqb-true}
-use Rattle.board.specs.Answers.{answer}
+use Rattle.board.specs.Answers.{answer, markOf}
 use Rattle.board.specs.Lists.{part, splice}
 use Rattle.board.specs.Shapes.{fitsShape}
 use Rattle.board.specs.declared.Answer.{Answer}
@@ -129,7 +129,7 @@ apart m = untagged (slots3 false) words2
     (ours .name ∷ wordOf (changedLine ours) ∷ othersNext .name ∷ wordOf (changedLine othersNext) ∷ []) (lineWith 50 ++ lineWith 9) m
 
 -- the end of run A: the 7 is held, not changed
-abbrev last : List ℕ → Board
+abbrev pub last : List ℕ → Board
 last m = holding false others 7 m
 
 -- ---- the calls of the runs
@@ -156,40 +156,40 @@ module _ (m : List ℕ) (fits : length m ≡ 16384) where
     unfolding ones onesIn fitsShape byTable calls.attach supervise step
     does-attach-other = record { does = rw fits }
 
-    does-save-fifty : lineOf m 256 ≡ lineWith 0 → Does shape (empty (slots3 write) words2 m) (save 0 4 0 50) (answer 0 0 0) (holding write (changedLine ours) 50 m)
-    unfolding ones onesIn part splice fitsShape lowestFrom lowestFrame mappedTo homeBy homeOf digits stored withLine lineAt putLine holdsLine holdsAt holderFrom holderOf writtenBack filled noted inserted performedAt wayByHome wayBy wayOf unreached mayWrite byTable tooLarge alignedTo performedOn accessedBy accessed userTable userAccess step
+    does-save-fifty : lineOf m 256 ≡ lineWith 0 → Does shape (empty (slots3 write) words2 m) (save 0 4 0 50) (answer 0 0 2) (holding write (changedLine ours) 50 m)
+    unfolding ones onesIn part splice fitsShape lowestFrom lowestFrame mappedTo homeBy homeOf digits stored withLine lineAt putLine holdsLine holdsAt holderFrom holderOf writtenBack filled noted inserted performedAt wayByHome wayBy wayOf unreached mayWrite byTable tooLarge alignedTo markOf performedOn accessedBy accessed userTable userAccess step
     does-save-fifty h = record { does = rw (fits, h) }
 
     -- the line of process 0 is held, changed
     does-hit : (value : ℕ) → Does shape (holding write (changedLine ours) value m) (load 0 3) (answer 0 value 1) (holding write (changedLine ours) value m)
-    unfolding ones onesIn fitsShape number lineAt holdsLine holdsAt holderFrom holderOf performedAt wayBy wayOf unreached mayWrite byTable tooLarge alignedTo performedOn accessedBy accessed userTable userAccess step
+    unfolding ones onesIn fitsShape number lineAt holdsLine holdsAt holderFrom holderOf performedAt wayBy wayOf unreached mayWrite byTable tooLarge alignedTo markOf performedOn accessedBy accessed userTable userAccess step
     does-hit value = record { does = rw (fits, zero-add) }
 
   -- run A: process 1 loads the 50
-  does-hit-shared : Does shape (holding false (changedLine ours) 50 m) (load 1 3) (answer 0 50 1) (holding false (changedLine ours) 50 m)
-  unfolding ones onesIn fitsShape number lineAt holdsLine holdsAt holderFrom holderOf performedAt wayBy wayOf unreached mayWrite byTable tooLarge alignedTo performedOn accessedBy accessed userTable userAccess step
+  pub does-hit-shared : Does shape (holding false (changedLine ours) 50 m) (load 1 3) (answer 0 50 1) (holding false (changedLine ours) 50 m)
+  unfolding ones onesIn fitsShape number lineAt holdsLine holdsAt holderFrom holderOf performedAt wayBy wayOf unreached mayWrite byTable tooLarge alignedTo markOf performedOn accessedBy accessed userTable userAccess step
   does-hit-shared = record { does = rw fits }
 
   -- its store of 7 pushes the 50 out
-  does-push : lineOf (withLine m 256 (lineWith 50)) 512 ≡ lineWith 0
-      → Does shape (holding false (changedLine ours) 50 m) (save 1 4 0x400000 7) (answer 0 0 0) (holding false (changedLine others) 7 (withLine m 256 (lineWith 50)))
-  unfolding ones onesIn part splice fitsShape lowestFrom lowestFrame mappedTo homeBy homeOf digits stored lineOf withLine lineAt putLine holdsLine holdsAt holderFrom holderOf writtenBack filled noted inserted performedAt wayByHome wayBy wayOf unreached mayWrite byTable tooLarge alignedTo performedOn accessedBy accessed userTable userAccess step
+  pub does-push : lineOf (withLine m 256 (lineWith 50)) 512 ≡ lineWith 0
+      → Does shape (holding false (changedLine ours) 50 m) (save 1 4 0x400000 7) (answer 0 0 3) (holding false (changedLine others) 7 (withLine m 256 (lineWith 50)))
+  unfolding ones onesIn part splice fitsShape lowestFrom lowestFrame mappedTo homeBy homeOf digits stored lineOf withLine lineAt putLine holdsLine holdsAt holderFrom holderOf writtenBack filled noted inserted performedAt wayByHome wayBy wayOf unreached mayWrite byTable tooLarge alignedTo markOf performedOn accessedBy accessed userTable userAccess step
   does-push h = record { does = rw (fits, h) }
 
   -- process 0 loads its 50 from memory, which pushes the 7 out
-  does-load-fifty : lineOf (withLine m 512 (lineWith 7)) 256 ≡ lineWith 50
-      → Does shape (holding false (changedLine others) 7 m) (load 0 3) (answer 0 50 0) (holding false ours 50 (withLine m 512 (lineWith 7)))
-  unfolding ones onesIn part splice fitsShape lowestFrom lowestFrame mappedTo homeBy homeOf number lineOf withLine lineAt putLine holdsLine holdsAt holderFrom holderOf writtenBack filled noted inserted performedAt wayByHome wayBy wayOf unreached mayWrite byTable tooLarge alignedTo performedOn accessedBy accessed userTable userAccess step
+  pub does-load-fifty : lineOf (withLine m 512 (lineWith 7)) 256 ≡ lineWith 50
+      → Does shape (holding false (changedLine others) 7 m) (load 0 3) (answer 0 50 3) (holding false ours 50 (withLine m 512 (lineWith 7)))
+  unfolding ones onesIn part splice fitsShape lowestFrom lowestFrame mappedTo homeBy homeOf number lineOf withLine lineAt putLine holdsLine holdsAt holderFrom holderOf writtenBack filled noted inserted performedAt wayByHome wayBy wayOf unreached mayWrite byTable tooLarge alignedTo markOf performedOn accessedBy accessed userTable userAccess step
   does-load-fifty h = record { does = rw (fits, h) }
 
   -- process 1 loads its 7 from memory; the 50 that leaves is not changed
-  does-load-seven : lineOf m 512 ≡ lineWith 7 → Does shape (holding false ours 50 m) (load 1 0x400003) (answer 0 7 0) (last m)
-  unfolding ones onesIn part splice fitsShape lowestFrom lowestFrame mappedTo homeBy homeOf number lineOf withLine lineAt putLine holdsLine holdsAt holderFrom holderOf writtenBack filled noted inserted performedAt wayByHome wayBy wayOf unreached mayWrite byTable tooLarge alignedTo performedOn accessedBy accessed userTable userAccess step
+  pub does-load-seven : lineOf m 512 ≡ lineWith 7 → Does shape (holding false ours 50 m) (load 1 0x400003) (answer 0 7 2) (last m)
+  unfolding ones onesIn part splice fitsShape lowestFrom lowestFrame mappedTo homeBy homeOf number lineOf withLine lineAt putLine holdsLine holdsAt holderFrom holderOf writtenBack filled noted inserted performedAt wayByHome wayBy wayOf unreached mayWrite byTable tooLarge alignedTo markOf performedOn accessedBy accessed userTable userAccess step
   does-load-seven h = record { does = rw (fits, h) }
 
   -- run B: the 9 goes to record 1, the 8 is refused, and the 50 is still held
-  does-save-nine : lineOf m 513 ≡ lineWith 0 → Does shape (holding false (changedLine ours) 50 m) (save 1 4 0x400010 9) (answer 0 0 0) (apart m)
-  unfolding ones onesIn part splice fitsShape lowestFrom lowestFrame mappedTo homeBy homeOf digits stored lineOf withLine lineAt putLine holdsLine holdsAt holderFrom holderOf writtenBack filled noted inserted performedAt wayByHome wayBy wayOf unreached mayWrite byTable tooLarge alignedTo performedOn accessedBy accessed userTable userAccess step
+  does-save-nine : lineOf m 513 ≡ lineWith 0 → Does shape (holding false (changedLine ours) 50 m) (save 1 4 0x400010 9) (answer 0 0 2) (apart m)
+  unfolding ones onesIn part splice fitsShape lowestFrom lowestFrame mappedTo homeBy homeOf digits stored lineOf withLine lineAt putLine holdsLine holdsAt holderFrom holderOf writtenBack filled noted inserted performedAt wayByHome wayBy wayOf unreached mayWrite byTable tooLarge alignedTo markOf performedOn accessedBy accessed userTable userAccess step
   does-save-nine h = record { does = rw (fits, h) }
 
   does-refuse : Does shape (apart m) (save 1 1 3 8) (answer 7 0 0) (apart m)
@@ -197,12 +197,12 @@ module _ (m : List ℕ) (fits : length m ≡ 16384) where
   does-refuse = record { does = rw fits }
 
   does-hit-apart : Does shape (apart m) (load 0 3) (answer 0 50 1) (apart m)
-  unfolding ones onesIn fitsShape number lineAt holdsLine holdsAt holderFrom holderOf performedAt wayBy wayOf unreached mayWrite byTable tooLarge alignedTo performedOn accessedBy accessed userTable userAccess step
+  unfolding ones onesIn fitsShape number lineAt holdsLine holdsAt holderFrom holderOf performedAt wayBy wayOf unreached mayWrite byTable tooLarge alignedTo markOf performedOn accessedBy accessed userTable userAccess step
   does-hit-apart = record { does = rw fits }
 
   -- run C: process 1 stores over the 50
   does-over : Does shape (holding true (changedLine ours) 50 m) (save 1 1 3 7) (answer 0 0 1) (holding true (changedLine ours) 7 m)
-  unfolding ones onesIn splice fitsShape digits stored lineAt putLine holdsLine holdsAt holderFrom holderOf performedAt wayBy wayOf unreached mayWrite byTable tooLarge alignedTo performedOn accessedBy accessed userTable userAccess step
+  unfolding ones onesIn splice fitsShape digits stored lineAt putLine holdsLine holdsAt holderFrom holderOf performedAt wayBy wayOf unreached mayWrite byTable tooLarge alignedTo markOf performedOn accessedBy accessed userTable userAccess step
   does-over = record { does = rw fits }
 
   -- after run A: two refusals, and what look shows
@@ -237,10 +237,10 @@ memory3 = withLine memory2 256 (lineWith 50)
 pub memory3-fits : length memory3 ≡ 16384
 memory3-fits = length-line memory2 256 (lineWith 50) ∙ memory2-fits
 
-abbrev memory4 : List ℕ
+abbrev pub memory4 : List ℕ
 memory4 = withLine memory3 512 (lineWith 7)
 
-memory4-fits : length memory4 ≡ 16384
+pub memory4-fits : length memory4 ≡ 16384
 memory4-fits = length-line memory3 512 (lineWith 7) ∙ memory3-fits
 
 pub memory2-first : lineOf memory2 256 ≡ lineWith 0
@@ -255,29 +255,29 @@ memory3-first = written-here memory2 memory2-fits 256 (omega arith) (lineWith 50
 pub memory3-other : lineOf memory3 512 ≡ lineWith 0
 memory3-other = written-elsewhere memory2 memory2-fits 512 (omega arith) 50 256 (omega arith) ∙ memory2-other 512 (omega arith) refl
 
-memory4-first : lineOf memory4 256 ≡ lineWith 50
+pub memory4-first : lineOf memory4 256 ≡ lineWith 50
 memory4-first = written-elsewhere memory3 memory3-fits 256 (omega arith) 7 512 (omega arith) ∙ memory3-first
 
-memory4-other : lineOf memory4 512 ≡ lineWith 7
+pub memory4-other : lineOf memory4 512 ≡ lineWith 7
 memory4-other = written-here memory3 memory3-fits 512 (omega arith) (lineWith 7) refl
 
 -- the opening
 abbrev pub six : List Answer → List Answer
-six l = answer 0 0 0 ∷ answer 0 0 0 ∷ answer 0 0 0 ∷ answer 0 0 0 ∷ answer 0 0 0 ∷ answer 0 0 0 ∷ l
+six l = answer 0 0 0 ∷ answer 0 0 0 ∷ answer 0 0 0 ∷ answer 0 0 0 ∷ answer 0 0 0 ∷ answer 0 0 2 ∷ l
 
 pub ran-opening : (write : Bool) {ks : List Call} {l : List Answer} {c : Board} → Ran shape (holding write (changedLine ours) 50 memory2) ks l c → Ran shape start (opening write ks) (six l) c
 ran-opening write r =
     does-map-first then does-map-second memory1 memory1-fits then does-attach-own memory2 memory2-fits then does-attach-shared memory2 memory2-fits write
     then does-attach-other memory2 memory2-fits write then does-save-fifty memory2 memory2-fits write memory2-first then r
 
-ran-pushing : {ks : List Call} {l : List Answer} {c : Board} → Ran shape (holding false (changedLine others) 7 memory3) ks l c
-    → Ran shape start (pushing ks) (six (answer 0 50 1 ∷ answer 0 0 0 ∷ l)) c
+pub ran-pushing : {ks : List Call} {l : List Answer} {c : Board} → Ran shape (holding false (changedLine others) 7 memory3) ks l c
+    → Ran shape start (pushing ks) (six (answer 0 50 1 ∷ answer 0 0 3 ∷ l)) c
 ran-pushing r = ran-opening false (does-hit-shared memory2 memory2-fits then does-push memory2 memory2-fits memory3-other then r)
 
-ranA : Ran shape start runA (six (answer 0 50 1 ∷ answer 0 0 0 ∷ answer 0 50 0 ∷ answer 0 7 0 ∷ [])) (last memory4)
+pub ranA : Ran shape start runA (six (answer 0 50 1 ∷ answer 0 0 3 ∷ answer 0 50 3 ∷ answer 0 7 2 ∷ [])) (last memory4)
 ranA = ran-pushing (does-load-fifty memory3 memory3-fits memory4-first then does-load-seven memory4 memory4-fits memory4-other then ended)
 
-ranB : Ran shape start runB (six (answer 0 0 0 ∷ answer 7 0 0 ∷ answer 0 50 1 ∷ [])) (apart memory2)
+ranB : Ran shape start runB (six (answer 0 0 2 ∷ answer 7 0 0 ∷ answer 0 50 1 ∷ [])) (apart memory2)
 ranB =
     ran-opening false (does-save-nine memory2 memory2-fits (memory2-other 513 (omega arith) refl) then does-refuse memory2 memory2-fits
     then does-hit-apart memory2 memory2-fits then ended)

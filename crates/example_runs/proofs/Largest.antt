@@ -9,7 +9,7 @@ use lib.Count.{ones}
 use lib.ListN.{length, getD, set, replicate, length-replicate, length-set}
 use lib.Seq.{getD-set-same}
 use Rattle.address.specs.Layout.{lineBytes, pageBytes, processSlots}
-use Rattle.board.specs.Answers.{answer}
+use Rattle.board.specs.Answers.{answer, markOf}
 use Rattle.board.specs.Shapes.{fitsShape, recordWords}
 use Rattle.slots.specs.Slots.{slotIndex, slotWord}
 use Rattle.pages.specs.Pages.{frameWord, lowestFrom, lowestFrame, mappedTo, homeBy, homeOf}
@@ -36,7 +36,7 @@ use Rattle.promises.specs.Runs.{attach, map, supervisor, supervise, step}
 use Rattle.promises.proofs.Limits.{limits-stand}
 use Rattle.example_runs.specs.Examples.{load, save}
 use Rattle.example_runs.specs.Largest.{shape, placeBits, lastProcess, lastPlace, start, run, LargestBoard, PastLimits}
-use Rattle.example_runs.proofs.Chains.{fresh-line, none-written, Does, Ran, ended, _then_, ran-answers, ran-after}
+use Rattle.example_runs.proofs.Chains.{fresh-line, none-written, none-marked, Does, Ran, ended, _then_, ran-answers, ran-after}
 
 one : ones (shape .lines) ≡ 1
 one = power-one placeBits
@@ -98,15 +98,15 @@ module _ (slots r c m : List ℕ) (x : Long slots r c m) where
 
   module _ (attached : getD slots lastSlot 0 ≡ segmentWord) where
     does-store : lineAt r lastPlace ≡ noLine → lineAt missedRecords lastPlace ≡ missed
-        → Does shape (untagged slots pageWord r c m) (save lastProcess 4 0x7FFFFFFC 50) (answer 0 0 0)
+        → Does shape (untagged slots pageWord r c m) (save lastProcess 4 0x7FFFFFFC 50) (answer 0 0 2)
         (untagged slots pageWord (putLine missedRecords lastPlace (changedLine missed)) (stored missedCache (lineBytes * lastPlace + 12) 4 50) m)
     unfolding lowestFrom lowestFrame mappedTo homeBy homeOf holdsLine holdsAt holderFrom holderOf filled noted inserted performedAt wayByHome wayBy wayOf unreached mayWrite byTable tooLarge alignedTo performedOn accessedBy accessed userTable userAccess step
-    does-store h g = record { does = rw (fits, attached, h, none-written shape lastPlace r c m h, g) }
+    does-store h g = record { does = rw (fits, attached, h, none-written shape lastPlace r c m h, none-marked shape lastPlace r h, g) }
 
     does-load : lineAt r lastPlace ≡ changedLine missed
         → Does shape (untagged slots pageWord r c m) (load lastProcess 0x7FFFFFFF) (answer 0 (number c (lineBytes * lastPlace + 15) 1) 1)
         (untagged slots pageWord r c m)
-    unfolding holdsLine holdsAt holderFrom holderOf performedAt wayBy wayOf unreached mayWrite byTable tooLarge alignedTo performedOn accessedBy accessed userTable userAccess step
+    unfolding holdsLine holdsAt holderFrom holderOf performedAt wayBy wayOf unreached mayWrite byTable tooLarge alignedTo markOf performedOn accessedBy accessed userTable userAccess step
     does-load h = record { does = rw (fits, attached, h) }
 
 -- ---- the lists of the run
@@ -208,7 +208,7 @@ loaded-byte : number cache3 (lineBytes * lastPlace + 15) 1 ≡ 50
 unfolding number stored digits
 loaded-byte = zero-add _ ∙ splice-in cache2 (lineBytes * lastPlace + 12) (digits 4 50) 3 (lineBytes * lastPlace + 15) refl (omega arith) (omega (arith, length-cache2))
 
-ran : Ran shape start run (answer 0 0 0 ∷ answer 2 0 0 ∷ answer 0 0 0 ∷ answer 0 0 0 ∷ answer 0 (number cache3 (lineBytes * lastPlace + 15) 1) 1 ∷ [])
+ran : Ran shape start run (answer 0 0 0 ∷ answer 2 0 0 ∷ answer 0 0 0 ∷ answer 0 0 2 ∷ answer 0 (number cache3 (lineBytes * lastPlace + 15) 1) 1 ∷ [])
     (untagged slots1 pageWord records3 cache3 memory1)
 ran =
     does-map slots0 records0 cache0 memory0 long0

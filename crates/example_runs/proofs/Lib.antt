@@ -5,3 +5,4 @@ pub mod Uncached
 pub mod Wrong
 pub mod Largest
 pub mod Values
+pub mod Marks

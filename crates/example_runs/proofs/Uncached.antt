@@ -7,7 +7,7 @@ use mathlib.Core.List.{List, [], _∷_}
 use native.Mathlib.Omega.{arith}
 use lib.ListN.{length, getD, set, replicate}
 use lib.Count.{ones, onesIn}
-use Rattle.board.specs.Answers.{answer}
+use Rattle.board.specs.Answers.{answer, markOf}
 use Rattle.board.specs.Shapes.{fitsShape}
 use Rattle.board.specs.declared.Shape.{Shape}
 use Rattle.board.specs.declared.Answer.{Answer}
@@ -72,13 +72,13 @@ does-attach : step ownShape mapped (supervisor (attach 0 0 2048 true)) ≡ outco
 unfolding ones onesIn fitsShape byTable calls.attach supervise step
 does-attach = rw (length-zeros 16, memory-length)
 
-does-load : step ownShape attached load ≡ outcome (answer 0 (number cache 0 1) 0) held
-unfolding ones onesIn fitsShape lowestFrom lowestFrame mappedTo homeBy homeOf lineAt putLine holdsLine holdsAt holderFrom holderOf writtenBack filled noted inserted performedAt wayByHome wayBy wayOf unreached mayWrite byTable tooLarge alignedTo performedOn accessedBy accessed userTable userAccess step
+does-load : step ownShape attached load ≡ outcome (answer 0 (number cache 0 1) 2) held
+unfolding ones onesIn fitsShape lowestFrom lowestFrame mappedTo homeBy homeOf lineAt putLine holdsLine holdsAt holderFrom holderOf writtenBack filled noted inserted performedAt wayByHome wayBy wayOf unreached mayWrite byTable tooLarge alignedTo markOf performedOn accessedBy accessed userTable userAccess step
 does-load = rw (length-zeros 16, memory-length)
 
 -- the line is held, whatever U says
 does-hit : step otherShape held load ≡ outcome (answer 0 (number cache 0 1) 1) held
-unfolding ones onesIn fitsShape lineAt holdsLine holdsAt holderFrom holderOf performedAt wayBy wayOf unreached mayWrite byTable tooLarge alignedTo performedOn accessedBy accessed userTable userAccess step
+unfolding ones onesIn fitsShape lineAt holdsLine holdsAt holderFrom holderOf performedAt wayBy wayOf unreached mayWrite byTable tooLarge alignedTo markOf performedOn accessedBy accessed userTable userAccess step
 does-hit = rw (cache-length, memory-length)
 
 -- a run of one call, and of a call and others

@@ -9,7 +9,7 @@ use lib.Count.{ones, onesIn}
 use lib.ListN.{length}
 use Rattle.address.specs.Layout.{pageBytes}
 use Rattle.address.specs.Addresses.{effective, global, regionOf}
-use Rattle.board.specs.Answers.{answer}
+use Rattle.board.specs.Answers.{answer, markOf}
 use Rattle.board.specs.Lists.{splice}
 use Rattle.board.specs.Shapes.{fitsShape}
 use Rattle.line_bytes.specs.Bytes.{number, digits, stored}
@@ -61,35 +61,35 @@ module _ (m : List ℕ) (length-is : length m ≡ 16384) where
 
   -- loads of a held line, and stores to it
   does-load-byte : (d v : ℕ) → Does shape (holdingFour m 0 0 0 d) (user 0 (loading 1 v) (effective 3)) (answer 0 d 1) (holdingFour m 0 0 0 d)
-  unfolding ones onesIn fitsShape number lineAt holdsLine holdsAt holderFrom holderOf performedAt wayBy wayOf unreached mayWrite byTable tooLarge alignedTo performedOn accessedBy accessed userTable userAccess step
+  unfolding ones onesIn fitsShape number lineAt holdsLine holdsAt holderFrom holderOf performedAt wayBy wayOf unreached mayWrite byTable tooLarge alignedTo markOf performedOn accessedBy accessed userTable userAccess step
   does-load-byte d v = record { does = rw (length-is, zero-add) }
 
   does-load-pair : Does shape (holdingFour m 0 0 255 255) (user 0 (loading 2 0) (effective 2)) (answer 0 65535 1) (holdingFour m 0 0 255 255)
-  unfolding ones onesIn fitsShape number lineAt holdsLine holdsAt holderFrom holderOf performedAt wayBy wayOf unreached mayWrite byTable tooLarge alignedTo performedOn accessedBy accessed userTable userAccess step
+  unfolding ones onesIn fitsShape number lineAt holdsLine holdsAt holderFrom holderOf performedAt wayBy wayOf unreached mayWrite byTable tooLarge alignedTo markOf performedOn accessedBy accessed userTable userAccess step
   does-load-pair = record { does = rw length-is }
 
   does-load-four : Does shape (holdingFour m 255 255 255 255) (user 0 (loading 4 0) (effective 0)) (answer 0 (2 ^ 32 - 1) 1) (holdingFour m 255 255 255 255)
-  unfolding ones onesIn fitsShape number lineAt holdsLine holdsAt holderFrom holderOf performedAt wayBy wayOf unreached mayWrite byTable tooLarge alignedTo performedOn accessedBy accessed userTable userAccess step
+  unfolding ones onesIn fitsShape number lineAt holdsLine holdsAt holderFrom holderOf performedAt wayBy wayOf unreached mayWrite byTable tooLarge alignedTo markOf performedOn accessedBy accessed userTable userAccess step
   does-load-four = record { does = rw length-is }
 
   does-save-byte : Does shape (holdingFour m 0 0 0 50) (save 0 1 3 255) (answer 0 0 1) (holdingFour m 0 0 0 255)
-  unfolding ones onesIn splice fitsShape digits stored lineAt putLine holdsLine holdsAt holderFrom holderOf performedAt wayBy wayOf unreached mayWrite byTable tooLarge alignedTo performedOn accessedBy accessed userTable userAccess step
+  unfolding ones onesIn splice fitsShape digits stored lineAt putLine holdsLine holdsAt holderFrom holderOf performedAt wayBy wayOf unreached mayWrite byTable tooLarge alignedTo markOf performedOn accessedBy accessed userTable userAccess step
   does-save-byte = record { does = rw length-is }
 
   does-save-pair : Does shape (holdingFour m 0 0 0 255) (save 0 2 2 65535) (answer 0 0 1) (holdingFour m 0 0 255 255)
-  unfolding ones onesIn splice fitsShape digits stored lineAt putLine holdsLine holdsAt holderFrom holderOf performedAt wayBy wayOf unreached mayWrite byTable tooLarge alignedTo performedOn accessedBy accessed userTable userAccess step
+  unfolding ones onesIn splice fitsShape digits stored lineAt putLine holdsLine holdsAt holderFrom holderOf performedAt wayBy wayOf unreached mayWrite byTable tooLarge alignedTo markOf performedOn accessedBy accessed userTable userAccess step
   does-save-pair = record { does = rw length-is }
 
   does-save-four : Does shape (holdingFour m 0 0 255 255) (save 0 4 0 (2 ^ 32 - 1)) (answer 0 0 1) (holdingFour m 255 255 255 255)
-  unfolding ones onesIn splice fitsShape digits stored lineAt putLine holdsLine holdsAt holderFrom holderOf performedAt wayBy wayOf unreached mayWrite byTable tooLarge alignedTo performedOn accessedBy accessed userTable userAccess step
+  unfolding ones onesIn splice fitsShape digits stored lineAt putLine holdsLine holdsAt holderFrom holderOf performedAt wayBy wayOf unreached mayWrite byTable tooLarge alignedTo markOf performedOn accessedBy accessed userTable userAccess step
   does-save-four = record { does = rw length-is }
 
   -- the supervisor's, to the held line and past the cache
   does-save-held : Does shape (holdingFour m 255 255 255 255) (saveByte 0x200000003 255) (answer 0 0 1) (holdingFour m 255 255 255 255)
-  unfolding ones onesIn splice fitsShape regionOf digits stored lineAt putLine holdsLine holdsAt holderFrom holderOf performedAt wayBy wayOf unreached mayWrite byTable tooLarge alignedTo isOrdinary isCached outside performedOn accessedBy accessed supervisorTable supervisorDone supervisorAccess supervise step
+  unfolding ones onesIn splice fitsShape regionOf digits stored lineAt putLine holdsLine holdsAt holderFrom holderOf performedAt wayBy wayOf unreached mayWrite byTable tooLarge alignedTo isOrdinary isCached outside markOf performedOn accessedBy accessed supervisorTable supervisorDone supervisorAccess supervise step
   does-save-held = record { does = rw length-is }
 
-  does-save-past : Does shape (holdingFour m 255 255 255 255) (saveByte 0 255) (answer 0 0 0) (holdingFour (stored m 0 1 255) 255 255 255 255)
+  does-save-past : Does shape (holdingFour m 255 255 255 255) (saveByte 0 255) (answer 0 0 4) (holdingFour (stored m 0 1 255) 255 255 255 255)
   unfolding ones onesIn fitsShape regionOf byTable tooLarge alignedTo isOrdinary isCached outside memoryAccess supervisorTable supervisorDone supervisorAccess supervise step
   does-save-past = record { does = rw length-is }
 
@@ -107,7 +107,7 @@ module _ (m : List ℕ) (length-is : length m ≡ 16384) where
 
 ran-values : Ran shape start run
     (six (answer 2 0 0 ∷ answer 2 0 0 ∷ answer 2 0 0 ∷ answer 2 0 0 ∷ answer 4 0 0 ∷ answer 4 0 0 ∷ answer 0 50 1 ∷ answer 0 0 1 ∷ answer 0 255 1 ∷ answer 0 0 1
-    ∷ answer 0 65535 1 ∷ answer 0 0 1 ∷ answer 0 (2 ^ 32 - 1) 1 ∷ answer 0 0 1 ∷ answer 0 0 0 ∷ answer 2 0 0 ∷ answer 2 0 0 ∷ answer 2 0 0 ∷ answer 2 0 0 ∷ []))
+    ∷ answer 0 65535 1 ∷ answer 0 0 1 ∷ answer 0 (2 ^ 32 - 1) 1 ∷ answer 0 0 1 ∷ answer 0 0 4 ∷ answer 2 0 0 ∷ answer 2 0 0 ∷ answer 2 0 0 ∷ answer 2 0 0 ∷ []))
     (holdingFour (stored memory2 0 1 255) 255 255 255 255)
 unfolding asks
 ran-values =

@@ -9,7 +9,7 @@ use lib.Count.{ones, onesIn}
 use lib.ListN.{length, getD, set, getD-replicate}
 use Rattle.address.specs.Addresses.{global, regionOf}
 use Rattle.address.specs.declared.Effective.{Effective}
-use Rattle.board.specs.Answers.{answer}
+use Rattle.board.specs.Answers.{answer, markOf}
 use Rattle.board.specs.Lists.{part, splice}
 use Rattle.board.specs.Shapes.{fitsShape}
 use Rattle.board.specs.declared.Shape.{Shape}
@@ -145,12 +145,12 @@ module _ (m : List ℕ) (fits : length m ≡ 16384) where
   does-attach-second = record { does = rw fits }
 
   does-save : lineOf m 256 ≡ lineWith 0
-      → Does shape (empty slots2 words2 m) (save 0 4 0 50) (answer 0 0 0) (holding (frameWord 0x200000 true) (changedLine ours) 50 m)
-  unfolding ones onesIn part splice fitsShape lowestFrom lowestFrame mappedTo homeBy homeOf digits stored withLine lineAt putLine holdsLine holdsAt holderFrom holderOf writtenBack filled noted inserted performedAt wayByHome wayBy wayOf unreached mayWrite byTable tooLarge alignedTo performedOn accessedBy accessed userTable userAccess step
+      → Does shape (empty slots2 words2 m) (save 0 4 0 50) (answer 0 0 2) (holding (frameWord 0x200000 true) (changedLine ours) 50 m)
+  unfolding ones onesIn part splice fitsShape lowestFrom lowestFrame mappedTo homeBy homeOf digits stored withLine lineAt putLine holdsLine holdsAt holderFrom holderOf writtenBack filled noted inserted performedAt wayByHome wayBy wayOf unreached mayWrite byTable tooLarge alignedTo markOf performedOn accessedBy accessed userTable userAccess step
   does-save h = record { does = rw (fits, h) }
 
 -- the opening, of a machine whose map and attach are the board's and that does the store
-ran-opening : {p : Parts} {ks : List Call} {l : List Reply} → p .maps ≡ calls.mapPage → DoesBy p (empty slots2 words2 memory2) (save 0 4 0 50) (answer 0 0 0) stored50
+ran-opening : {p : Parts} {ks : List Call} {l : List Reply} → p .maps ≡ calls.mapPage → DoesBy p (empty slots2 words2 memory2) (save 0 4 0 50) (answer 0 0 2) stored50
     → RanBy p stored50 ks l → RanBy p start (opening ks) (opened l)
 unfolding superviseBy stepBy supervise step
 ran-opening maps saves r =
@@ -178,7 +178,7 @@ module _ (m : List ℕ) (fits : length m ≡ 16384) where
 
   -- a held line is loaded from, whatever the frame word says
   does-hit : (word : ℕ) → Does shape (holding word (changedLine ours) 50 m) (load 0 3) (answer 0 50 1) (holding word (changedLine ours) 50 m)
-  unfolding ones onesIn fitsShape number lineAt holdsLine holdsAt holderFrom holderOf performedAt wayBy wayOf unreached mayWrite byTable tooLarge alignedTo performedOn accessedBy accessed userTable userAccess step
+  unfolding ones onesIn fitsShape number lineAt holdsLine holdsAt holderFrom holderOf performedAt wayBy wayOf unreached mayWrite byTable tooLarge alignedTo markOf performedOn accessedBy accessed userTable userAccess step
   does-hit word = record { does = rw fits }
 
   does-unmap-wrong : DoesBy unmapKeepsLines (holding (frameWord 0x200000 true) (changedLine ours) 50 m) (supervisor (unmap 0x200000)) (answer 0 0 0)
@@ -215,7 +215,7 @@ module _ (m : List ℕ) (fits : length m ≡ 16384) where
 
   -- a held line with write permission is stored to, whatever the frame word says
   does-over : (word : ℕ) → Does shape (holding word (changedLine ours) 50 m) (save 0 1 3 7) (answer 0 0 1) (holding word (changedLine ours) 7 m)
-  unfolding ones onesIn splice fitsShape digits stored lineAt putLine holdsLine holdsAt holderFrom holderOf performedAt wayBy wayOf unreached mayWrite byTable tooLarge alignedTo performedOn accessedBy accessed userTable userAccess step
+  unfolding ones onesIn splice fitsShape digits stored lineAt putLine holdsLine holdsAt holderFrom holderOf performedAt wayBy wayOf unreached mayWrite byTable tooLarge alignedTo markOf performedOn accessedBy accessed userTable userAccess step
   does-over word = record { does = rw fits }
 
   does-protect-wrong : DoesBy protectKeepsLines (holding (frameWord 0x200000 true) (changedLine ours) 50 m) (supervisor (protect 0x200000 false)) (answer 0 0 0)
@@ -242,15 +242,15 @@ theirs = newLine 0x30000000 512 true
 module _ (m : List ℕ) (fits : length m ≡ 16384) where
   -- the load from the other page writes the 50 back
   does-push : lineOf (withLine m 256 (lineWith 50)) 512 ≡ lineWith 0
-      → Does shape (holding (frameWord 0x200000 true) (changedLine ours) 50 m) (load 0 0x400003) (answer 0 0 0)
+      → Does shape (holding (frameWord 0x200000 true) (changedLine ours) 50 m) (load 0 0x400003) (answer 0 0 3)
       (holding (frameWord 0x200000 true) theirs 0 (withLine m 256 (lineWith 50)))
-  unfolding ones onesIn part splice fitsShape lowestFrom lowestFrame mappedTo homeBy homeOf number lineOf withLine lineAt putLine holdsLine holdsAt holderFrom holderOf writtenBack filled noted inserted performedAt wayByHome wayBy wayOf unreached mayWrite byTable tooLarge alignedTo performedOn accessedBy accessed userTable userAccess step
+  unfolding ones onesIn part splice fitsShape lowestFrom lowestFrame mappedTo homeBy homeOf number lineOf withLine lineAt putLine holdsLine holdsAt holderFrom holderOf writtenBack filled noted inserted performedAt wayByHome wayBy wayOf unreached mayWrite byTable tooLarge alignedTo markOf performedOn accessedBy accessed userTable userAccess step
   does-push h = record { does = rw (fits, h) }
 
   -- the load from the first page then finds what is in memory
   does-reload : (value : ℕ) → lineOf m 256 ≡ lineWith value
-      → Does shape (holding (frameWord 0x200000 true) theirs 0 m) (load 0 3) (answer 0 value 0) (holding (frameWord 0x200000 true) ours value m)
-  unfolding ones onesIn part splice fitsShape lowestFrom lowestFrame mappedTo homeBy homeOf number lineOf withLine lineAt putLine holdsLine holdsAt holderFrom holderOf writtenBack filled noted inserted performedAt wayByHome wayBy wayOf unreached mayWrite byTable tooLarge alignedTo performedOn accessedBy accessed userTable userAccess step
+      → Does shape (holding (frameWord 0x200000 true) theirs 0 m) (load 0 3) (answer 0 value 2) (holding (frameWord 0x200000 true) ours value m)
+  unfolding ones onesIn part splice fitsShape lowestFrom lowestFrame mappedTo homeBy homeOf number lineOf withLine lineAt putLine holdsLine holdsAt holderFrom holderOf writtenBack filled noted inserted performedAt wayByHome wayBy wayOf unreached mayWrite byTable tooLarge alignedTo markOf performedOn accessedBy accessed userTable userAccess step
   does-reload value h = record { does = rw (fits, h, zero-add) }
 
 -- what a user access gives, with memory as it was
@@ -273,14 +273,14 @@ no-write-back-breaks =
 module _ (m : List ℕ) (fits : length m ≡ 16384) where
   -- the store fills its line as on the board
   does-save-wrong : lineOf m 256 ≡ lineWith 0
-      → DoesBy partCompared (empty slots2 words2 m) (save 0 4 0 50) (answer 0 0 0) (holding (frameWord 0x200000 true) (changedLine ours) 50 m)
-  unfolding ones onesIn part splice fitsShape lowestFrom lowestFrame mappedTo homeBy homeOf digits stored withLine lineAt putLine holdsLine holdsAt holderFrom holderOf writtenBack filled noted inserted performedAt wayByHome wayBy wayOf unreached mayWrite byTable tooLarge alignedTo performedOn accessedBy accessed userTable userAccess stepBy
+      → DoesBy partCompared (empty slots2 words2 m) (save 0 4 0 50) (answer 0 0 2) (holding (frameWord 0x200000 true) (changedLine ours) 50 m)
+  unfolding ones onesIn part splice fitsShape lowestFrom lowestFrame mappedTo homeBy homeOf digits stored withLine lineAt putLine holdsLine holdsAt holderFrom holderOf writtenBack filled noted inserted performedAt wayByHome wayBy wayOf unreached mayWrite byTable tooLarge alignedTo markOf performedOn accessedBy accessed userTable userAccess stepBy
   does-save-wrong h = record { does = rw (fits, h) }
 
   -- the load finds the line of the first page, under the name of the other
   does-hit-wrong : DoesBy partCompared (holding (frameWord 0x200000 true) (changedLine ours) 50 m) (load 0 0x400003) (answer 0 50 1)
       (holding (frameWord 0x200000 true) (changedLine (newLine 0x30000000 256 true)) 50 m)
-  unfolding ones onesIn fitsShape number lineAt putLine holdsLine holdsAt holderFrom holderOf noted performedAt wayBy wayOf unreached mayWrite byTable tooLarge alignedTo performedOn accessedBy accessed userTable userAccess stepBy
+  unfolding ones onesIn fitsShape number lineAt putLine holdsLine holdsAt holderFrom holderOf noted performedAt wayBy wayOf unreached mayWrite byTable tooLarge alignedTo markOf performedOn accessedBy accessed userTable userAccess stepBy
   does-hit-wrong = record { does = rw fits }
 
 pub part-compared-breaks : PartComparedBreaks
@@ -312,9 +312,9 @@ memory-line =
     line-ext memory (lineOver 255 255) 256 0 (omega (arith, length-memory)) (omega arith)
     (λ k g. memory-at (4096 + k) (omega arith) ∙ sym (getD-replicate {A = ℕ} 16 (0 + k) 255 0 (omega arith)))
 
-does-direct : Does shape start (supervisor (access (record { store = true; width = 4; value = 7 }) (global 0x100001000))) (answer 0 0 0)
+does-direct : Does shape start (supervisor (access (record { store = true; width = 4; value = 7 }) (global 0x100001000))) (answer 0 0 2)
     (direct7 slots0 (0 ∷ 0 ∷ 0 ∷ 0 ∷ []) (direct .name) (wordOf direct) memory)
-unfolding ones onesIn part splice fitsShape mappedTo homeBy directHome freeFrame homeOf digits stored withLine zeros lineAt putLine holdsLine holdsAt holderFrom holderOf writtenBack filled noted inserted performedAt wayByHome wayBy wayOf unreached byTable tooLarge alignedTo isOrdinary isCached outside performedOn accessedBy accessed regionOf supervisorTable supervisorDone supervisorAccess supervise step
+unfolding ones onesIn part splice fitsShape mappedTo homeBy directHome freeFrame homeOf digits stored withLine zeros lineAt putLine holdsLine holdsAt holderFrom holderOf writtenBack filled noted inserted performedAt wayByHome wayBy wayOf unreached byTable tooLarge alignedTo isOrdinary isCached outside markOf performedOn accessedBy accessed regionOf supervisorTable supervisorDone supervisorAccess supervise step
 does-direct = record { does = rw (length-memory, memory-line) }
 
 module _ (m : List ℕ) (fits : length m ≡ 16384) where
@@ -334,16 +334,16 @@ module _ (m : List ℕ) (fits : length m ≡ 16384) where
 
   -- nothing is held: the line is filled with the zeros of the map
   does-load-zero : lineOf m 256 ≡ lineWith 0
-      → Does shape (direct7 slots1 words1 0 0 m) (load 0 3) (answer 0 0 0)
+      → Does shape (direct7 slots1 words1 0 0 m) (load 0 3) (answer 0 0 2)
       (untagged slots1 words1 (ours .name ∷ wordOf ours ∷ 0 ∷ 0 ∷ []) (lineWith 0 ++ lineWith 0) m)
-  unfolding ones onesIn part splice fitsShape lowestFrom lowestFrame mappedTo homeBy homeOf number lineOf withLine lineAt putLine holdsLine holdsAt holderFrom holderOf writtenBack filled noted inserted performedAt wayByHome wayBy wayOf unreached mayWrite byTable tooLarge alignedTo performedOn accessedBy accessed userTable userAccess step
+  unfolding ones onesIn part splice fitsShape lowestFrom lowestFrame mappedTo homeBy homeOf number lineOf withLine lineAt putLine holdsLine holdsAt holderFrom holderOf writtenBack filled noted inserted performedAt wayByHome wayBy wayOf unreached mayWrite byTable tooLarge alignedTo markOf performedOn accessedBy accessed userTable userAccess step
   does-load-zero h = record { does = rw (fits, h) }
 
   -- the old line is written back first, over the zeros
   does-load-seven : lineOf (withLine m 256 (lineOver 0 7)) 256 ≡ lineOver 0 7
-      → Does shape (direct7 slots1 words1 (direct .name) (wordOf direct) m) (load 0 3) (answer 0 7 0)
+      → Does shape (direct7 slots1 words1 (direct .name) (wordOf direct) m) (load 0 3) (answer 0 7 3)
       (direct7 slots1 words1 (ours .name) (wordOf ours) (withLine m 256 (lineOver 0 7)))
-  unfolding ones onesIn part splice fitsShape lowestFrom lowestFrame mappedTo homeBy homeOf number lineOf withLine lineAt putLine holdsLine holdsAt holderFrom holderOf writtenBack filled noted inserted performedAt wayByHome wayBy wayOf unreached mayWrite byTable tooLarge alignedTo performedOn accessedBy accessed userTable userAccess step
+  unfolding ones onesIn part splice fitsShape lowestFrom lowestFrame mappedTo homeBy homeOf number lineOf withLine lineAt putLine holdsLine holdsAt holderFrom holderOf writtenBack filled noted inserted performedAt wayByHome wayBy wayOf unreached mayWrite byTable tooLarge alignedTo markOf performedOn accessedBy accessed userTable userAccess step
   does-load-seven h = record { does = rw (fits, h) }
 
 memory1-first : lineOf memory1 256 ≡ lineWith 0

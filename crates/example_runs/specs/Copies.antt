@@ -91,7 +91,7 @@ pub record OneCopyKept : Type 0 where
   -- the store leaves the prefix 1 line in record 0
   pub direct-held : lineAt (after shape start (directStore ∷ []) .store .records) 0 ≡ directLine
   -- all calls are done; the process gets the 0 of the map, not 50 and not 255
-  pub answers-are : answers shape start handed ≡ answer 0 0 0 ∷ answer 0 0 0 ∷ answer 0 0 0 ∷ answer 0 0 0 ∷ []
+  pub answers-are : answers shape start handed ≡ answer 0 0 2 ∷ answer 0 0 0 ∷ answer 0 0 0 ∷ answer 0 0 2 ∷ []
   -- at the end record 0 holds nothing and record 256 the page's line: one copy of physical line 0
   pub direct-dropped : lineAt (after shape start handed .store .records) 0 ≡ noLine
   pub page-held : lineAt (after shape start handed .store .records) 256 ≡ pageLine

@@ -109,7 +109,7 @@ pub record Example1 : Type 0 where
 pub record Example2 : Type 0 where
   -- run A is all done. Process 1 finds the 50 held; then the two processes push each other's line out, and both read back what they stored
   pub answers-are : answers shape start runA
-      ≡ answer 0 0 0 ∷ answer 0 0 0 ∷ answer 0 0 0 ∷ answer 0 0 0 ∷ answer 0 0 0 ∷ answer 0 0 0 ∷ answer 0 50 1 ∷ answer 0 0 0 ∷ answer 0 50 0 ∷ answer 0 7 0 ∷ []
+      ≡ answer 0 0 0 ∷ answer 0 0 0 ∷ answer 0 0 0 ∷ answer 0 0 0 ∷ answer 0 0 0 ∷ answer 0 0 2 ∷ answer 0 50 1 ∷ answer 0 0 3 ∷ answer 0 50 3 ∷ answer 0 7 2 ∷ []
   -- before process 1 stores, record 0 holds process 0's line, changed, and memory has the zeros of the map
   pub record-before : lineAt (after shape start (opening false []) .store .records) 0 ≡ changedLine (newLine 0x20000000 256 true)
   pub memory-before : lineOf (after shape start (opening false []) .store .memory) 256 ≡ lineWith 0
@@ -137,9 +137,9 @@ pub record Example3 : Type 0 where
   -- process 0 gets 0 for its store and 50 for its load in both
   pub replies-A : repliesTo 0 shape start runA ≡ gets 0 0 ∷ gets 0 50 ∷ []
   pub replies-B : repliesTo 0 shape start runB ≡ gets 0 0 ∷ gets 0 50 ∷ []
-  -- only the mark of that 50 differs: 0 in run A (`Example2`), 1 in run B
+  -- only the mark of that 50 differs: 3 in run A (`Example2`), 1 in run B
   pub answers-B : answers shape start runB
-      ≡ answer 0 0 0 ∷ answer 0 0 0 ∷ answer 0 0 0 ∷ answer 0 0 0 ∷ answer 0 0 0 ∷ answer 0 0 0 ∷ answer 0 0 0 ∷ answer 7 0 0 ∷ answer 0 50 1 ∷ []
+      ≡ answer 0 0 0 ∷ answer 0 0 0 ∷ answer 0 0 0 ∷ answer 0 0 0 ∷ answer 0 0 0 ∷ answer 0 0 2 ∷ answer 0 0 2 ∷ answer 7 0 0 ∷ answer 0 50 1 ∷ []
   -- the premises of `same-bytes`, for the first line of the page of segment 2048
   pub page-held : everHolds shape start runA 0 (segmentOfPage 0x200000) ≡ true
   pub page-mapped : mappedTo shape (after shape start runA .words) 0x200000 ≡ At 1

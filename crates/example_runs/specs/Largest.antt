@@ -45,7 +45,7 @@ pub record LargestBoard : Type 0 where
   pub within : Within shape placeBits
   pub as-long : AsLong shape start
   -- the attach for the process past the last is refused by 2, all else is done, and the load finds its line held
-  pub answers-are : answers shape start run ≡ answer 0 0 0 ∷ answer 2 0 0 ∷ answer 0 0 0 ∷ answer 0 0 0 ∷ answer 0 50 1 ∷ []
+  pub answers-are : answers shape start run ≡ answer 0 0 0 ∷ answer 2 0 0 ∷ answer 0 0 0 ∷ answer 0 0 2 ∷ answer 0 50 1 ∷ []
   -- that line, name 0x2003FFFF and physical line 255, has the last place
   pub last-line : lineAt (after shape start run .store .records) lastPlace ≡ changedLine (newLine 0x2003FFFF 255 true)
 

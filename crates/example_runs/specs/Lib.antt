@@ -4,3 +4,4 @@ pub mod Uncached
 pub mod Wrong
 pub mod Largest
 pub mod Values
+pub mod Marks

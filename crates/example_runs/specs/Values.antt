@@ -37,11 +37,11 @@ pub record ValuesExample : Type 0 where
   -- the opening is done; what is too large is refused with 2, and leaves the 50; widths 3 and 0 are refused with 4; each largest value is stored, and
   -- read back whole
   pub answers-are : answers shape start run
-      ≡ answer 0 0 0 ∷ answer 0 0 0 ∷ answer 0 0 0 ∷ answer 0 0 0 ∷ answer 0 0 0 ∷ answer 0 0 0
+      ≡ answer 0 0 0 ∷ answer 0 0 0 ∷ answer 0 0 0 ∷ answer 0 0 0 ∷ answer 0 0 0 ∷ answer 0 0 2
       ∷ answer 2 0 0 ∷ answer 2 0 0 ∷ answer 2 0 0 ∷ answer 2 0 0
       ∷ answer 4 0 0 ∷ answer 4 0 0 ∷ answer 0 50 1
       ∷ answer 0 0 1 ∷ answer 0 255 1 ∷ answer 0 0 1 ∷ answer 0 65535 1 ∷ answer 0 0 1 ∷ answer 0 (2 ^ 32 - 1) 1
-      ∷ answer 0 0 1 ∷ answer 0 0 0 ∷ answer 2 0 0 ∷ answer 2 0 0 ∷ answer 2 0 0 ∷ answer 2 0 0 ∷ []
+      ∷ answer 0 0 1 ∷ answer 0 0 4 ∷ answer 2 0 0 ∷ answer 2 0 0 ∷ answer 2 0 0 ∷ answer 2 0 0 ∷ []
   -- 2 comes before a misaligned address's 4, and before the 3 of a pending tag
   pub before-4 : LowerGiven (after shape start (opening false [])) (save 0 2 1 65536) 2 4
   pub before-3 : LowerGiven (after shape start (opening false (supervisor (tag 0x20000000) ∷ []))) (save 0 1 3 256) 2 3

@@ -9,13 +9,13 @@ use lib.ListN.{length}
 use Rattle.address.specs.Addresses.{nameOf}
 use Rattle.address.specs.declared.Global.{Global}
 use Rattle.address.specs.declared.Physical.{Physical}
-use Rattle.board.specs.Answers.{answer}
+use Rattle.board.specs.Answers.{answer, markUncached, markOf}
 use Rattle.board.specs.declared.Answer.{Answer}
 use Rattle.board.specs.declared.Shape.{Shape}
 use Rattle.line_bytes.specs.Bytes.{number, stored}
 use Rattle.stores.specs.Premises.{Sized}
 use Rattle.reach.specs.Reach.{wayOf, unreached, mayWrite}
-use Rattle.stores.specs.Stores.{Store, store, Performed, performed, performedAt, inserted}
+use Rattle.stores.specs.Stores.{Store, store, mustWriteBack, Performed, performed, performedAt, inserted}
 use Rattle.stores.specs.declared.Access.{Access}
 use Rattle.reach.specs.declared.Way.{Way}
 use Rattle.reach.specs.declared.Way.the-variants.{Held, InMemory, Missing}
@@ -66,21 +66,23 @@ module _ (width at : ℕ) where
   unfolding alignedTo
   aligned-none n m l = rw (ne-eqb _ _ n, ne-eqb _ _ m, ne-eqb _ _ l)
 
-pub performed-on : (r c m : List ℕ) (i offset : ℕ) (a : Access) (mark v : ℕ) (r₁ c₁ : List ℕ) → performed v r₁ c₁ ≡ performedAt i offset a r c
-    → reached (answer 0 v mark) r₁ c₁ m ≡ performedOn i offset a mark (store r c m)
+pub performed-on : (r c m : List ℕ) (i offset : ℕ) (a : Access) (held back : Bool) (mark v : ℕ) (x : Answer) (r₁ c₁ : List ℕ)
+    → performed v r₁ c₁ ≡ performedAt i offset a r c → mark ≡ markOf held back → x ≡ answer 0 v mark
+    → reached x r₁ c₁ m ≡ performedOn i offset a (markOf held back) (store r c m)
 unfolding performedOn
-performed-on r c m i offset a mark v r₁ c₁ e = ap (λ (p : Performed). reachedBy p m mark) e
+performed-on r c m i offset a held back mark v x r₁ c₁ e k f = rw (f, k) (ap (λ (p : Performed). reachedBy p m (markOf held back)) e)
 
 -- past the cache
 module _ (r c m : List ℕ) (p : Physical) (a : Access) where
-  pub memory-stored : (x : Answer) (m₁ : List ℕ) → a .store ≡ true → m₁ ≡ stored m (p .0) (a .width) (a .value) → x ≡ answer 0 0 0
+  pub memory-stored : (x : Answer) (m₁ : List ℕ) → a .store ≡ true → m₁ ≡ stored m (p .0) (a .width) (a .value) → x ≡ answer 0 0 markUncached
       → reached x r c m₁ ≡ memoryAccess p a (store r c m)
   unfolding memoryAccess
   memory-stored x m₁ e f g = rw (e, f, g)
 
-  pub memory-loaded : (v : ℕ) → a .store ≡ false → v ≡ number m (p .0) (a .width) → reached (answer 0 v 0) r c m ≡ memoryAccess p a (store r c m)
+  pub memory-loaded : (x : Answer) (v : ℕ) → a .store ≡ false → v ≡ number m (p .0) (a .width) → x ≡ answer 0 v markUncached
+      → reached x r c m ≡ memoryAccess p a (store r c m)
   unfolding memoryAccess
-  memory-loaded v e f = rw (e, f)
+  memory-loaded x v e f g = rw (g, e, f)
 
 -- an access to a line by the way to it
 unfoldable lineBy : Shape → ℕ → ℕ → Bool → Access → Store → Way → Reached
@@ -118,7 +120,7 @@ module _ (s : Shape) (words r c m : List ℕ) (g : Global) (user : Bool) (a : Ac
     held-reads x t f = rw f (simp t at (ap by (sym k)) ∙ line-on)
 
     pub held-performed : (x : Answer) (r₁ c₁ : List ℕ) → (user && (a .store && not write)) ≡ false
-        → reached x r₁ c₁ m ≡ performedOn i (g .0 % 16) a 1 (store r c m)
+        → reached x r₁ c₁ m ≡ performedOn i (g .0 % 16) a (markOf true false) (store r c m)
         → reached x r₁ c₁ m ≡ lineAccess s words g user a (store r c m)
     unfolding lineBy by byTable unreached mayWrite accessedBy
     held-performed x r₁ c₁ t d = d ∙ simp t at (ap by (sym k)) ∙ line-on
@@ -129,12 +131,14 @@ module _ (s : Shape) (words r c m : List ℕ) (g : Global) (user : Bool) (a : Ac
     unfolding lineBy by byTable unreached mayWrite
     memory-reads x t f = rw f (simp t at (ap by (sym k)) ∙ line-on)
 
-    pub memory-inserted : (x : Answer) (name place : ℕ) (r₁ c₁ m₁ r₂ c₂ : List ℕ) → (user && (a .store && not write)) ≡ false
+    pub memory-inserted : (x : Answer) (name place : ℕ) (back : Bool) (r₁ c₁ m₁ r₂ c₂ : List ℕ) → (user && (a .store && not write)) ≡ false
         → name ≡ nameOf g → place ≡ name % s .lines
-        → store r₁ c₁ m₁ ≡ inserted 1 s place name line write (store r c m)
-        → reached x r₂ c₂ m₁ ≡ performedOn place (g .0 % 16) a 0 (store r₁ c₁ m₁)
+        → (store r₁ c₁ m₁ ≡ inserted 1 s place name line write (store r c m)) × (back ≡ mustWriteBack 1 s r place)
+        → reached x r₂ c₂ m₁ ≡ performedOn place (g .0 % 16) a (markOf false back) (store r₁ c₁ m₁)
         → reached x r₂ c₂ m₁ ≡ lineAccess s words g user a (store r c m)
     unfolding lineBy by byTable unreached mayWrite accessedBy
-    memory-inserted x name place r₁ c₁ m₁ r₂ c₂ t n p f d =
+    memory-inserted x name place back r₁ c₁ m₁ r₂ c₂ t n p f d =
         let q : place ≡ nameOf g % (s .lines / 1) = p ∙ ap (λ (l : ℕ). name % l) (sym (div-one (s .lines))) ∙ ap (λ (i : ℕ). i % (s .lines / 1)) n in
-        d ∙ ap (performedOn place (g .0 % 16) a 0) f ∙ rw (q, n) (simp t at (ap by (sym k)) ∙ line-on)
+        d ∙ ap (performedOn place (g .0 % 16) a (markOf false back)) (f .0)
+        ∙ ap (λ (t : Bool). performedOn place (g .0 % 16) a (markOf false t) (inserted 1 s place name line write (store r c m))) (f .1)
+        ∙ rw (q, n) (simp t at (ap by (sym k)) ∙ line-on)

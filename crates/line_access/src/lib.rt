@@ -4,6 +4,7 @@ ghost use mathlib.Core.Path.{_≡_};
 ghost use Prim.Native.Nat.{_+_, _*_, _%_, _≤_};
 ghost use lib.ListN.{length};
 ghost use Rattle.address.specs.Layout.{lineBytes};
+ghost use Rattle.board.specs.Answers.{markOf};
 ghost use Rattle.line_bytes.specs.Premises.{Width};
 ghost use Rattle.stores.specs.Premises.{Sized};
 ghost use Rattle.stores.specs.Lent.{storeBefore, storeAfter};
@@ -16,6 +17,9 @@ use address::LINE_BYTES;
 use address::Physical;
 use board::Answer;
 use board::Shape;
+use board::UNCACHED;
+use board::accessed;
+use board::mark_of;
 use board::numbered;
 use reach::Way;
 use stores::Access;
@@ -63,7 +67,8 @@ pub fn global_aligned(width: u32, g: Global) -> bool
     aligned(width, g.0)
 }
 
-// A load or a store on the line of record `i`, which holds it now.
+// A load or a store on the line of record `i`, which holds it now. Its mark: was the line held when the access came, and was a
+// line written back for it.
 fn perform_on(
     records: &mut [u64],
     cache: &mut [u8],
@@ -71,17 +76,14 @@ fn perform_on(
     i: usize,
     offset: usize,
     a: Access,
-    mark: u32,
+    held: bool,
+    back: bool,
 ) -> Answer
     requires { ⌜ (2 * i + 2 ≤ length (now records)) × (16 * i + offset + a .width ≤ length (now cache)) × Width (a .width) ⌝ }
-    ensures { λ r. ⌜ ended r (storeAfter records cache memory) ≡ performedOn i offset a mark (storeBefore records cache memory) ⌝ }
+    ensures { λ r. ⌜ ended r (storeAfter records cache memory) ≡ performedOn i offset a (markOf held back) (storeBefore records cache memory) ⌝ }
 {
     let value = stores::perform(records, cache, i, offset, a);
-    Answer {
-        number: 0,
-        value: value,
-        mark: mark,
-    }
+    accessed(value, mark_of(held, back))
 }
 
 // An access to a line, with numbers 8 and 9.
@@ -105,7 +107,7 @@ pub fn line_access(
                 return numbered(9);
             }
             let offset = (g.0 % LINE_BYTES) as usize;
-            perform_on(records, cache, memory, i, offset, a, 1)
+            perform_on(records, cache, memory, i, offset, a, true, false)
         }
         Way::InMemory(line, write) => {
             if user & (a.store & !write) {
@@ -114,9 +116,9 @@ pub fn line_access(
             let name = g.name();
             let lines = s.lines;
             let place = lines::place_of(lines, name);
-            stores::insert(s, records, cache, memory, place, name, line, write);
+            let back = stores::insert(s, records, cache, memory, place, name, line, write);
             let offset = (g.0 % LINE_BYTES) as usize;
-            perform_on(records, cache, memory, place, offset, a, 0)
+            perform_on(records, cache, memory, place, offset, a, false, back)
         }
     }
 }
@@ -136,12 +138,8 @@ pub fn memory_access(
     let width = a.width;
     if a.store {
         line_bytes::store_bytes(memory, at, width, a.value);
-        return numbered(0);
+        return accessed(0, UNCACHED);
     }
     let value = line_bytes::load_bytes(memory, at, width);
-    Answer {
-        number: 0,
-        value: value,
-        mark: 0,
-    }
+    accessed(value, UNCACHED)
 }

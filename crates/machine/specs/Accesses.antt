@@ -1,6 +1,6 @@
 -- 01, "Calls": user access and supervisor access.
 use Prim.Native.Nat.{ℕ, _%_}
-use mathlib.Core.Bool.{not, _&&_, _||_, cond}
+use mathlib.Core.Bool.{true, false, not, _&&_, _||_, cond}
 use mathlib.Core.List.{List, [], _∷_, _++_}
 use lib.ListN.{getD}
 use Rattle.address.specs.Layout.{lineBytes}
@@ -10,13 +10,13 @@ use Rattle.address.specs.declared.Global.{Global}
 use Rattle.address.specs.declared.Physical.{Physical}
 use Rattle.address.specs.declared.Region.{Region}
 use Rattle.address.specs.declared.Region.the-variants.{Uncached, Cached, PageTable, Ordinary}
-use Rattle.board.specs.Answers.{answer}
+use Rattle.board.specs.Answers.{answer, markNone, markUncached, markOf}
 use Rattle.slots.specs.Slots.{slotIndex, slotSegment}
 use Rattle.board.specs.declared.Shape.{Shape}
 use Rattle.board.specs.declared.Pending.{Pending}
 use Rattle.board.specs.declared.Answer.{Answer}
 use Rattle.line_bytes.specs.Bytes.{number, stored}
-use Rattle.stores.specs.Stores.{Store, store, inserted, Performed, performedAt}
+use Rattle.stores.specs.Stores.{Store, store, mustWriteBack, inserted, Performed, performedAt}
 use Rattle.lines.specs.Holds.{placeOf}
 use Rattle.reach.specs.Reach.{wayOf, unreached}
 use Rattle.stores.specs.declared.Access.{Access}
@@ -39,7 +39,7 @@ abbrev pub reached : Answer → List ℕ → List ℕ → List ℕ → Reached
 reached a records cache memory = ended a (store records cache memory)
 
 abbrev pub stopped : Store → ℕ → Reached
-stopped b n = ended (answer n 0 0) b
+stopped b n = ended (answer n 0 markNone) b
 
 -- a load or a store that is done on a line now held, and its mark
 abbrev pub reachedBy : Performed → List ℕ → ℕ → Reached
@@ -48,12 +48,14 @@ reachedBy p memory mark = reached (answer 0 (p .value) mark) (p .records) (p .ca
 unfoldable pub performedOn : ℕ → ℕ → Access → ℕ → Store → Reached
 performedOn i offset a mark b = reachedBy (performedAt i offset a (b .records) (b .cache)) (b .memory) mark
 
--- a held line is used as it is, mark 1; else the line is filled at its place with the page's present permission, mark 0.
--- (A line that is nowhere has been refused by row 8, so the last clause is never asked.)
+-- a held line is used as it is; else the line is filled at its place with the page's present permission. The mark goes by the records before
+-- the call: whether the line is held, and whether the line at its place must be written back.
+-- (A line that is nowhere has been refused, by row 8 or under prefix 1 by row 10 or 12, so the last clause is never asked.)
 unfoldable pub accessedBy : Shape → ℕ → ℕ → Access → Store → Way → Reached
-accessedBy s name offset a b (Held i write) = performedOn i offset a 1 b
+accessedBy s name offset a b (Held i write) = performedOn i offset a (markOf true false) b
 accessedBy s name offset a b (InMemory line write) =
-    performedOn (placeOf ways s name) offset a 0 (inserted ways s (placeOf ways s name) name line write b)
+    performedOn (placeOf ways s name) offset a (markOf false (mustWriteBack ways s (b .records) (placeOf ways s name)))
+    (inserted ways s (placeOf ways s name) name line write b)
 accessedBy s name offset a b Missing = stopped b 8
 
 -- the way to the line of a global address
@@ -110,8 +112,8 @@ supervisorTable s b a g =
 unfoldable pub memoryAccess : Physical → Access → Store → Reached
 memoryAccess p a b =
     cond (a .store)
-    (reached (answer 0 0 0) (b .records) (b .cache) (stored (b .memory) (p .0) (a .width) (a .value)))
-    (reached (answer 0 (number (b .memory) (p .0) (a .width)) 0) (b .records) (b .cache) (b .memory))
+    (reached (answer 0 0 markUncached) (b .records) (b .cache) (stored (b .memory) (p .0) (a .width) (a .value)))
+    (reached (answer 0 (number (b .memory) (p .0) (a .width)) markUncached) (b .records) (b .cache) (b .memory))
 
 -- what it does, by what the address reaches (the page table region has been refused by row 12)
 unfoldable pub supervisorDone : Shape → List ℕ → Access → Global → Store → Region → Reached

@@ -10,6 +10,7 @@ use Rattle.address.specs.Layout.{pageLines}
 use Rattle.address.specs.Addresses.{nameOf}
 use Rattle.address.specs.declared.Global.{Global}
 use Rattle.pages.specs.Pages.{homeOf}
+use Rattle.board.specs.Answers.{markOf}
 use Rattle.board.specs.declared.Shape.{Shape}
 use Rattle.board.specs.declared.Found.{Found}
 use Rattle.board.specs.declared.Found.the-variants.{At, Nothing}
@@ -17,7 +18,7 @@ use Rattle.board.specs.declared.Home.{Home}
 use Rattle.board.specs.declared.Home.the-variants.{Line as HomeLine, Nowhere}
 use Rattle.line_bytes.specs.Bytes.{number as numberIn, digits, stored, lineOf}
 use Rattle.lines.specs.Records.{lineAt}
-use Rattle.stores.specs.Stores.{Store, store, performedAt, currentBy, current}
+use Rattle.stores.specs.Stores.{Store, store, mustWriteBack, performedAt, currentBy, current}
 use Rattle.lines.specs.Holds.{placeOf, holdsAt, holderOf, keeperOf}
 use Rattle.reach.specs.Reach.{wayByHome, wayBy, wayOf, unreached, mayWrite}
 use Rattle.stores.specs.declared.Access.{Access}
@@ -131,12 +132,12 @@ module _ (s : Shape) (words : List ℕ) {x : Store} {m : List ℕ} (homes : Home
     unfolding accessedBy wayBy wayByHome
     accessed-by off a fit (At i) h =
         let q : lineAt (x .records) i .physical ≡ p = let d = held-home s words sim name i h in cc in
-        rw q at (performed-same sim 1 i off a (holder-some 1 s (x .records) name i h .0) fit)
+        rw q at (performed-same sim (markOf true false) i off a (holder-some 1 s (x .records) name i h .0) fit)
     accessed-by off a fit Nothing h =
         let y = sim-inserted homes sim (placeOf 1 s name) name p w place-low place-stands h e in
         let l = inserted-line homes sim (placeOf 1 s name) name p w place-low place-stands h e in
         let o = inserted-held homes sim (placeOf 1 s name) name p w place-low place-stands h e in
-        rw e (rw l at (performed-same y 0 (placeOf 1 s name) off a o fit))
+        rw e (rw l at (performed-same y (markOf false (mustWriteBack 1 s (x .records) (placeOf 1 s name))) (placeOf 1 s name) off a o fit))
 
     loaded-by : (f : Found) → holderOf 1 s (x .records) name ≡ f → Sim 1 s (homeOf s words) (loadedBy s name p w x f) m
     unfolding loadedBy

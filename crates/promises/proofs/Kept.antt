@@ -19,7 +19,7 @@ use Rattle.board.specs.declared.Found.{Found}
 use Rattle.board.specs.declared.Found.the-variants.{At, Nothing}
 use Rattle.board.specs.declared.Home.{Home}
 use Rattle.board.specs.declared.Home.the-variants.{Line as HomeLine, Nowhere}
-use Rattle.board.proofs.Bools.{clash, and-left, and-rest, or-false}
+use Rattle.board.proofs.Bools.{clash, and-left, and-rest, or-false, cond-both}
 use Rattle.pages.specs.Pages.{homeOf}
 use Rattle.pages.proofs.Frames.{home-inside}
 use Rattle.line_bytes.proofs.Bytes.{length-stored}
@@ -27,7 +27,8 @@ use Rattle.lines.specs.Records.{lineAt, newLine, changedLine}
 use Rattle.lines.specs.Holds.{placeOf, holdsLine, holdsAt, holderOf}
 use Rattle.lines.proofs.Records.{length-put, line-put-same}
 use Rattle.lines.proofs.Holders.{holder-at, holder-place}
-use Rattle.stores.specs.Stores.{Store, filled, noted, inserted, performedAt}
+use Rattle.stores.specs.Stores.{Store, store, filled, noted, inserted, Performed, performedAt}
+use Rattle.stores.specs.declared.Access.{Access}
 use Rattle.reach.specs.Reach.{wayByHome, wayBy, wayOf, unreached}
 use Rattle.reach.specs.declared.Way.the-variants.{Held}
 use Rattle.machine.specs.Boards.{Board, fitsBoard, Outcome, refused, withStore}
@@ -54,12 +55,12 @@ whole value = record { number = 0; value = value }
 -- ---- a line that a record holds
 
 -- record i holds the line of this name, and has room in both lists
-record HeldBy (s : Shape) (name : ℕ) (x : Store) (i : ℕ) : Type 0 where
-  at-place : i ≡ name % s .lines
-  named : lineAt (x .records) i .name ≡ name
-  holds : holdsAt 1 s (x .records) i ≡ true
-  records-room : 2 * i + 2 ≤ length (x .records)
-  cache-room : 16 * i + 16 ≤ length (x .cache)
+pub record HeldBy (s : Shape) (name : ℕ) (x : Store) (i : ℕ) : Type 0 where
+  pub at-place : i ≡ name % s .lines
+  pub named : lineAt (x .records) i .name ≡ name
+  pub holds : holdsAt 1 s (x .records) i ≡ true
+  pub records-room : 2 * i + 2 ≤ length (x .records)
+  pub cache-room : 16 * i + 16 ≤ length (x .cache)
 
 -- so the way to the line is that record
 held-way : (s : Shape) (words : List ℕ) (name : ℕ) (x : Store) (i : ℕ) → HeldBy s name x i
@@ -67,23 +68,57 @@ held-way : (s : Shape) (words : List ℕ) (name : ℕ) (x : Store) (i : ℕ) →
 unfolding wayOf wayBy holdsAt
 held-way s words name x i h = rw (← holder-at s (x .records) name i (lineAt (x .records) i) (h .at-place) refl true (sym (h .holds)) (h .named) refl)
 
-module _ (s : Shape) (name off width value v : ℕ) (fits : value < 256 ^ width) (inside : off + width ≤ 16) (mark i : ℕ) (x : Store) (h : HeldBy s name x i) where
-  -- a store leaves it held, and a load after it gives the value
-  stored-held : HeldBy s name (performedOn i off (storing width value) mark x .after) i
-  unfolding performedOn performedAt holdsAt holdsLine
-  stored-held =
-      let e = line-put-same (x .records) i (changedLine (lineAt (x .records) i)) (h .records-room) in
+-- an access leaves it held
+pub performed-held : (s : Shape) (name off : ℕ) (a : Access) (mark i : ℕ) (x : Store) → HeldBy s name x i → HeldBy s name (performedOn i off a mark x .after) i
+unfolding performedOn performedAt holdsAt holdsLine
+performed-held s name off a mark i x h =
+    let e = line-put-same (x .records) i (changedLine (lineAt (x .records) i)) (h .records-room) in
+    cond-both (λ (p : Performed). HeldBy s name (store (p .records) (p .cache) (x .memory)) i) (a .store) _ _
+    (record {
+      at-place = h .at-place;
+      named = rw e (h .named);
+      holds = rw e (h .holds);
+      records-room = rw length-put (h .records-room);
+      cache-room = rw length-stored (h .cache-room);
+    })
+    (record { at-place = h .at-place; named = h .named; holds = h .holds; records-room = h .records-room; cache-room = h .cache-room })
+
+-- the place of a name
+pub place-is : (s : Shape) (name : ℕ) → placeOf 1 s name ≡ name % s .lines
+place-is s name = simp div-one
+
+-- the records of a board that fits
+module _ (s : Shape) (name : ℕ) (x : Store) (pos : 0 < s .lines) (records : length (x .records) ≡ 2 * s .lines) (cache : length (x .cache) ≡ 16 * s .lines) where
+  low : name % s .lines < s .lines
+  low = mod-lt name pos
+
+  -- the record that is found holds the line, and so does one that is filled with it
+  pub found-held : (i : ℕ) → holderOf 1 s (x .records) name ≡ At i → HeldBy s name x i
+  found-held i e =
+      let p = holder-place s (x .records) name i (holderOf 1 s (x .records) name) refl e in
+      let k = holder-some 1 s (x .records) name i e in
+      record { at-place = p; named = k .1; holds = k .0; records-room = omega (arith, low); cache-room = omega (arith, low) }
+
+  pub filled-held : (line : ℕ) (write : Bool) → line < pageLines * s .frames → HeldBy s name (inserted 1 s (placeOf 1 s name) name line write x) (placeOf 1 s name)
+  unfolding inserted noted filled
+  filled-held line write b =
+      let place = placeOf 1 s name in
+      let z = sizes-inserted s place name line write x in
+      let room : 2 * place + 2 ≤ length (x .records) = omega (arith, low, place-is s name) in
+      let e = line-put-same (x .records) place (newLine name line write) room in
       record {
-        at-place = h .at-place;
-        named = rw e (h .named);
-        holds = rw e (h .holds);
-        records-room = rw length-put (h .records-room);
-        cache-room = rw length-stored (h .cache-room);
+        at-place = place-is s name;
+        named = rw (written-records, e);
+        holds = rw written-records (held-put-same 1 s (x .records) place (newLine name line write) room ∙ holds-new 1 s place name line write (div-one place) b);
+        records-room = omega (arith, low, place-is s name, z .records);
+        cache-room = omega (arith, low, place-is s name, z .cache);
       }
 
-  stored-loaded : reply (performedOn i off (loading width v) 1 (performedOn i off (storing width value) mark x .after) .answer) ≡ whole value
+module _ (s : Shape) (name off width value v : ℕ) (fits : value < 256 ^ width) (inside : off + width ≤ 16) (mark i : ℕ) (x : Store) (h : HeldBy s name x i) where
+  -- a load after a store gives the value
+  stored-loaded : (again : ℕ) → reply (performedOn i off (loading width v) again (performedOn i off (storing width value) mark x .after) .answer) ≡ whole value
   unfolding performedOn performedAt
-  stored-loaded = rw (number-stored (x .cache) (16 * i + off) width value fits (omega (arith, h .cache-room)))
+  stored-loaded again = rw (number-stored (x .cache) (16 * i + off) width value fits (omega (arith, h .cache-room)))
 
 -- ---- an access to a line
 
@@ -96,53 +131,24 @@ module _ (s : Shape) (words : List ℕ) (g : Global) (width value v : ℕ) (fits
   again : (mark i : ℕ) (x : Store) → HeldBy s (nameOf g) x i → Again (performedOn i (g .0 % 16) (storing width value) mark x)
   unfolding accessed accessedBy unreached
   again mark i x h =
-      let k = stored-held s (nameOf g) (g .0 % 16) width value v fits inside mark i x h in
+      let k = performed-held s (nameOf g) (g .0 % 16) (storing width value) mark i x h in
       let w = held-way s words (nameOf g) (performedOn i (g .0 % 16) (storing width value) mark x .after) i k in
-      record { reaches = rw w; gives = rw w (stored-loaded s (nameOf g) (g .0 % 16) width value v fits inside mark i x h) }
+      record { reaches = rw w; gives = rw w (stored-loaded s (nameOf g) (g .0 % 16) width value v fits inside mark i x h _) }
 
   module _ (x : Store) (pos : 0 < s .lines) (records : length (x .records) ≡ 2 * s .lines) (cache : length (x .cache) ≡ 16 * s .lines)
       (frames : length words ≡ s .frames) where
-    abbrev place : ℕ
-    place = placeOf 1 s (nameOf g)
-
-    place-is : place ≡ nameOf g % s .lines
-    place-is = simp div-one
-
-    low : nameOf g % s .lines < s .lines
-    low = mod-lt (nameOf g) pos
-
-    found-held : (i : ℕ) → holderOf 1 s (x .records) (nameOf g) ≡ At i → HeldBy s (nameOf g) x i
-    found-held i e =
-        let p = holder-place s (x .records) (nameOf g) i (holderOf 1 s (x .records) (nameOf g)) refl e in
-        let k = holder-some 1 s (x .records) (nameOf g) i e in
-        record { at-place = p; named = k .1; holds = k .0; records-room = omega (arith, low); cache-room = omega (arith, low) }
-
-    filled-held : (line : ℕ) (write : Bool) → line < pageLines * s .frames → HeldBy s (nameOf g) (inserted 1 s place (nameOf g) line write x) place
-    unfolding inserted noted filled
-    filled-held line write b =
-        let z = sizes-inserted s place (nameOf g) line write x in
-        let room : 2 * place + 2 ≤ length (x .records) = omega (arith, low, place-is) in
-        let e = line-put-same (x .records) place (newLine (nameOf g) line write) room in
-        record {
-          at-place = place-is;
-          named = rw (written-records, e);
-          holds = rw written-records (held-put-same 1 s (x .records) place (newLine (nameOf g) line write) room ∙ holds-new 1 s place (nameOf g) line write (div-one place) b);
-          records-room = omega (arith, low, place-is, z .records);
-          cache-room = omega (arith, low, place-is, z .cache);
-        }
-
     by-home : (home : Home) → homeOf s words (nameOf g) ≡ home → unreached (wayByHome home) ≡ false
         → Again (accessedBy s (nameOf g) (g .0 % 16) (storing width value) x (wayByHome home))
     unfolding wayByHome accessedBy unreached
     by-home (HomeLine line write) e h =
-        again 0 place (inserted 1 s place (nameOf g) line write x)
-        (filled-held line write (home-inside s words (nameOf g) line write (homeOf s words (nameOf g)) refl e frames))
+        again _ (placeOf 1 s (nameOf g)) (inserted 1 s (placeOf 1 s (nameOf g)) (nameOf g) line write x)
+        (filled-held s (nameOf g) x pos records cache line write (home-inside s words (nameOf g) line write (homeOf s words (nameOf g)) refl e frames))
     by-home Nowhere e h = clash true refl h
 
     by-found : (found : Found) → holderOf 1 s (x .records) (nameOf g) ≡ found → unreached (wayBy s words (x .records) (nameOf g) found) ≡ false
         → Again (accessedBy s (nameOf g) (g .0 % 16) (storing width value) x (wayBy s words (x .records) (nameOf g) found))
     unfolding wayBy accessedBy
-    by-found (At i) e h = again 1 i x (found-held i e)
+    by-found (At i) e h = again _ i x (found-held s (nameOf g) x pos records cache i e)
     by-found Nothing e h = by-home (homeOf s words (nameOf g)) refl h
 
     accessed-again : unreached (wayTo s words (x .records) g) ≡ false → Again (accessed s words g (storing width value) x)

@@ -94,9 +94,9 @@ module _ (s : Shape) where
   module _ (a : Access) (x : Store) where
     sizes-accessed-by : (name offset : ℕ) (way : Way) → SameSizes x (accessedBy s name offset a x way .after)
     unfolding accessedBy
-    sizes-accessed-by name offset (Held i write) = sizes-performed a i offset 1 x
+    sizes-accessed-by name offset (Held i write) = sizes-performed a i offset _ x
     sizes-accessed-by name offset (InMemory line write) =
-        sizes-trans x (inserted ways s _ name line write x) _ (sizes-inserted _ name line write x) (sizes-performed a _ offset 0 _)
+        sizes-trans x (inserted ways s _ name line write x) _ (sizes-inserted _ name line write x) (sizes-performed a _ offset _ _)
     sizes-accessed-by name offset Missing = sizes-refl x
 
     pub sizes-accessed : (words : List ℕ) (g : Global) → SameSizes x (accessed s words g a x .after)

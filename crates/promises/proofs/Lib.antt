@@ -24,3 +24,4 @@ pub mod Entries
 pub mod Limits
 pub mod Kept
 pub mod Values
+pub mod Marks

@@ -76,16 +76,16 @@ module _ (s : Shape) (p : ℕ) where
 -- ---- the access
 
 module _ (s : Shape) (words : List ℕ) (g : Global) (a : Access) (x : Store) where
-  only-accessed-by : g .0 % 16 + a .width ≤ 16 → (way : Way) → way ≡ wayTo s words (x .records) g
+  pub only-accessed-by : g .0 % 16 + a .width ≤ 16 → (way : Way) → way ≡ wayTo s words (x .records) g
       → OnlyAt (placeOf ways s (nameOf g)) x (accessedBy s (nameOf g) (g .0 % 16) a x way .after)
   unfolding accessedBy
   only-accessed-by fits (Held i write) e =
       let z : i ≡ placeOf ways s (nameOf g) = way-held-place s words (x .records) (nameOf g) i write (Held i write) e refl ∙ simp div-one in
-      rw (← z) (only-performed s i a (g .0 % 16) fits 1 x)
+      rw (← z) (only-performed s i a (g .0 % 16) fits _ x)
   only-accessed-by fits (InMemory line write) e =
       only-trans (placeOf ways s (nameOf g)) x (inserted ways s (placeOf ways s (nameOf g)) (nameOf g) line write x) _
       (only-inserted s (placeOf ways s (nameOf g)) (nameOf g) line write x)
-      (only-performed s (placeOf ways s (nameOf g)) a (g .0 % 16) fits 0 _)
+      (only-performed s (placeOf ways s (nameOf g)) a (g .0 % 16) fits _ _)
   only-accessed-by fits Missing e = only-refl (placeOf ways s (nameOf g)) x
 
   only-accessed : g .0 % 16 + a .width ≤ 16 → OnlyAt (placeOf ways s (nameOf g)) x (accessed s words g a x .after)

@@ -50,9 +50,9 @@ module _ (s : Shape) (a : Access) where
   module _ (words : List ℕ) (size : length words ≡ s .frames) (x : Store) (all : ValidHolds s x) where
     valid-accessed-by : (g : Global) (offset : ℕ) (way : Way) → way ≡ wayTo s words (x .records) g → ValidHolds s (accessedBy s (nameOf g) offset a x way .after)
     unfolding accessedBy
-    valid-accessed-by g offset (Held i write) e = valid-done i offset 1 x all
+    valid-accessed-by g offset (Held i write) e = valid-done i offset _ x all
     valid-accessed-by g offset (InMemory line write) e =
-        valid-done (placeOf ways s (nameOf g)) offset 0 _
+        valid-done (placeOf ways s (nameOf g)) offset _ _
         (valid-filled s (nameOf g) line write x (way-inside s words (x .records) (nameOf g) line write (InMemory line write) e refl size) all)
     valid-accessed-by g offset Missing e = all
 

@@ -8,3 +8,4 @@ pub mod Brought
 pub mod Entries
 pub mod Limits
 pub mod Values
+pub mod Marks

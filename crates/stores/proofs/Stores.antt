@@ -7,7 +7,7 @@ use lib.ListN.{length}
 use Rattle.board.specs.declared.Shape.{Shape}
 use Rattle.line_bytes.specs.Bytes.{number, stored, lineOf, withLine}
 use Rattle.lines.specs.Records.{lineAt, putLine, newLine, changedLine}
-use Rattle.stores.specs.Stores.{store, writtenBack, filled, noted, inserted, performed, performedAt}
+use Rattle.stores.specs.Stores.{store, mustWriteBack, writtenBack, filled, noted, inserted, performed, performedAt}
 use Rattle.lines.specs.Holds.{holdsLine, holdsAt}
 use Rattle.stores.specs.Premises.{Sized}
 use Rattle.lines.specs.declared.Line.{Line}
@@ -24,7 +24,7 @@ sized-kept s r c m r₁ c₁ m₁ z x y w = record {
   memory-is = w ∙ z .memory-is;
 }
 
--- the write-back of a line
+-- the write-back of a line, and whether there was one
 module _ (s : Shape) (r c m : List ℕ) (i : ℕ) (l : Line) (t : Bool) (e : l ≡ lineAt r i) (h : t ≡ holdsLine 1 s i l) where
   pub written-not : t ≡ false → store r c m ≡ writtenBack 1 s i (store r c m)
   unfolding writtenBack holdsAt
@@ -37,6 +37,18 @@ module _ (s : Shape) (r c m : List ℕ) (i : ℕ) (l : Line) (t : Bool) (e : l �
   pub written-now : (m₁ : List ℕ) → t ≡ true → l .changed ≡ true → m₁ ≡ withLine m (l .physical) (lineOf c i) → store r c m₁ ≡ writtenBack 1 s i (store r c m)
   unfolding writtenBack holdsAt
   written-now m₁ f g k = rw (k, ← e, ← h, f, g)
+
+  pub writes-not : t ≡ false → false ≡ mustWriteBack 1 s r i
+  unfolding holdsAt
+  writes-not f = rw (← e, ← h, f)
+
+  pub writes-clean : t ≡ true → l .changed ≡ false → false ≡ mustWriteBack 1 s r i
+  unfolding holdsAt
+  writes-clean f g = rw (← e, ← h, f, g)
+
+  pub writes-now : t ≡ true → l .changed ≡ true → true ≡ mustWriteBack 1 s r i
+  unfolding holdsAt
+  writes-now f g = rw (← e, ← h, f, g)
 
 -- a miss
 pub inserted-by : (s : Shape) (r c m : List ℕ) (i name line : ℕ) (write : Bool) (m₁ c₁ r₁ : List ℕ) → store r c m₁ ≡ writtenBack 1 s i (store r c m)

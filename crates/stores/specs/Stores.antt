@@ -22,10 +22,14 @@ pub record Store : Type 0 where
 abbrev pub store : List ℕ → List ℕ → List ℕ → Store
 store r c m = record { records = r; cache = c; memory = m }
 
--- the line of record i to its own physical line, if it is held and changed
+-- the line of record i must be written back before another takes the record: it is held and changed
+abbrev pub mustWriteBack : ℕ → Shape → List ℕ → ℕ → Bool
+mustWriteBack ways s records i = holdsAt ways s records i && lineAt records i .changed
+
+-- the line of record i to its own physical line, if it must be
 unfoldable pub writtenBack : ℕ → Shape → ℕ → Store → Store
 writtenBack ways s i b =
-    cond (holdsAt ways s (b .records) i && lineAt (b .records) i .changed)
+    cond (mustWriteBack ways s (b .records) i)
     (store (b .records) (b .cache) (withLine (b .memory) (lineAt (b .records) i .physical) (lineOf (b .cache) i)))
     b
 
@@ -37,7 +41,7 @@ filled i line b = store (b .records) (withLine (b .cache) i (lineOf (b .memory) 
 unfoldable pub noted : ℕ → Line → Store → Store
 noted i l b = store (putLine (b .records) i l) (b .cache) (b .memory)
 
--- a miss: the old line at record i written back, the new one filled and noted
+-- a miss: the old line at record i written back if it must be, the new one filled and noted
 unfoldable pub inserted : ℕ → Shape → ℕ → ℕ → ℕ → Bool → Store → Store
 inserted ways s i name line write b = noted i (newLine name line write) (filled i line (writtenBack ways s i b))
 

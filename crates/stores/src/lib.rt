@@ -5,7 +5,7 @@ ghost use lib.ListN.{length};
 ghost use Rattle.address.specs.Layout.{lineBytes, pageLines};
 ghost use Rattle.line_bytes.specs.Premises.{Width};
 ghost use Rattle.stores.specs.Premises.{Sized};
-ghost use Rattle.stores.specs.Stores.{writtenBack, inserted, performed, performedAt};
+ghost use Rattle.stores.specs.Stores.{mustWriteBack, writtenBack, inserted, performed, performedAt};
 ghost use Rattle.stores.specs.Lent.{storeBefore, storeAfter};
 use board::LINE_BYTES;
 use board::Shape;
@@ -18,20 +18,23 @@ pub struct Access {
     pub value: u32,
 }
 
-// Writes the line of record `i` back to its own physical line, if it is held and changed.
-pub fn write_back(s: Shape, records: &[u64], cache: &[u8], memory: &mut [u8], i: usize)
+// Writes the line of record `i` back to its own physical line, if it is held and changed, and says whether it did.
+pub fn write_back(s: Shape, records: &[u64], cache: &[u8], memory: &mut [u8], i: usize) -> bool
     requires { ⌜ Sized s (now records) (now cache) (now memory) × (i < s .lines) ⌝ }
-    ensures { λ _. ⌜ storeAfter records cache memory ≡ writtenBack 1 s i (storeBefore records cache memory) ⌝ }
+    ensures { λ r. ⌜ (storeAfter records cache memory ≡ writtenBack 1 s i (storeBefore records cache memory)) × (r ≡ mustWriteBack 1 s (now (records .entry)) i) ⌝ }
 {
     let l = lines::line_at(records, i);
     if lines::holds(s, i, l) {
         if l.changed {
             line_bytes::copy_line(memory, l.physical as usize, cache, i);
+            return true;
         }
     }
+    false
 }
 
-// A miss: the old line of record `i` is written back if it has to be, the new one noted and filled.
+// A miss: the old line of record `i` is written back if it has to be, the new one noted and filled. It says whether a line was
+// written back.
 pub fn insert(
     s: Shape,
     records: &mut [u64],
@@ -41,11 +44,11 @@ pub fn insert(
     name: u64,
     line: usize,
     write: bool,
-)
+) -> bool
     requires { ⌜ Sized s (now records) (now cache) (now memory) × (i < s .lines) × (line < pageLines * s .frames) ⌝ }
-    ensures { λ _. ⌜ storeAfter records cache memory ≡ inserted 1 s i name line write (storeBefore records cache memory) ⌝ }
+    ensures { λ r. ⌜ (storeAfter records cache memory ≡ inserted 1 s i name line write (storeBefore records cache memory)) × (r ≡ mustWriteBack 1 s (now (records .entry)) i) ⌝ }
 {
-    write_back(s, records, cache, memory, i);
+    let back = write_back(s, records, cache, memory, i);
     lines::put_line(
         records,
         i,
@@ -58,6 +61,7 @@ pub fn insert(
         },
     );
     line_bytes::copy_line(cache, i, memory, line);
+    back
 }
 
 // A load or a store at an offset of the line of record `i`.

@@ -315,8 +315,17 @@ pub enum Call {
     DropTag,
 }
 
-/// "Each answer is a number, a value (0 for stores, refusals and all non-access calls) and a hit
-/// mark: 1 if the line was held when the access came, else 0."
+/// The marks, by CR 8: "0 refused or not an access, 1 hit, 2 refilled without a write-back, 3 refilled with one in that call, 4
+/// uncached."
+pub mod mark {
+    pub const NO_ACCESS: u32 = 0;
+    pub const HIT: u32 = 1;
+    pub const REFILLED: u32 = 2;
+    pub const WROTE_BACK: u32 = 3;
+    pub const UNCACHED: u32 = 4;
+}
+
+/// "Each answer is a number, a value (0 for stores, refusals and all non-access calls) and a hit mark": one of [`mark`].
 #[derive(Clone, Copy, Debug, PartialEq, Eq)]
 pub struct Answer {
     pub number: u32,
@@ -324,7 +333,7 @@ pub struct Answer {
     pub mark: u32,
 }
 
-/// The plain machine's answer: no mark.
+/// The plain machine's answer: it has no cache, and so no mark.
 #[derive(Clone, Copy, Debug, PartialEq, Eq)]
 pub struct PlainAnswer {
     pub number: u32,
@@ -370,6 +379,21 @@ pub enum Event {
     },
     /// Attach, detach, tag, drop tag: done.
     Done,
+}
+
+impl Event {
+    /// The mark of a call that did this. Decided: load-and-map is no access, whatever it refills or writes back.
+    fn mark(self) -> u32 {
+        match self {
+            Event::Hit => mark::HIT,
+            Event::Miss => mark::REFILLED,
+            Event::MissWriteBack => mark::WROTE_BACK,
+            Event::Uncached => mark::UNCACHED,
+            Event::Refused(_) | Event::Inserted { .. } | Event::FoundHeld => mark::NO_ACCESS,
+            Event::Mapped { .. } | Event::Unmapped { .. } | Event::Flushed { .. } => mark::NO_ACCESS,
+            Event::Protected { .. } | Event::Done => mark::NO_ACCESS,
+        }
+    }
 }
 
 /// Each call by its name, on the board and on the plain machine.
@@ -498,13 +522,11 @@ impl Board {
             Call::LoadAndMap { line } => self.do_load_and_map(line),
             Call::DropTag => self.do_drop_tag(),
         };
-        match outcome {
-            Ok((value, event)) => {
-                let mark = u32::from(event == Event::Hit);
-                (Answer { number: 0, value, mark }, event)
-            }
-            Err(number) => (Answer { number, value: 0, mark: 0 }, Event::Refused(number)),
-        }
+        let (number, value, event) = match outcome {
+            Ok((value, event)) => (0, value, event),
+            Err(number) => (number, 0, Event::Refused(number)),
+        };
+        (Answer { number, value, mark: event.mark() }, event)
     }
 
     /// "Look (physical line): the line's current 16 bytes, in the lowest record holding it, else in
@@ -717,7 +739,7 @@ impl Board {
             Kind::Uncached(physical) => {
                 // "beyond memory, prefix 0 from U up": U is at most F.
                 ask(12, frame_of(physical) >= self.shape.uncached)?;
-                // "Prefix 0 never touches the cache."
+                // "Prefix 0 never touches the cache", nor does it ask whether a record has that name.
                 let answer = transfer(&mut self.memory, physical, store, width, value);
                 Ok((answer, Event::Uncached))
             }
@@ -811,7 +833,7 @@ impl Board {
 
     /// "Load-and-map inserts the line with the page's present permission; if the line is held
     /// already it only clears the tag, so a changed line isn't lost." Decided: 8 and 13 are asked
-    /// of the page map even if the line is held; held by name, at its place; mark 0.
+    /// of the page map even if the line is held; held by name, at its place.
     fn do_load_and_map(&mut self, line: u64) -> Outcome {
         ask(1, !self.fits())?;
         ask(2, !self.line_in_memory(line))?;

@@ -11,10 +11,10 @@ fn p1_translation() {
     assert_eq!(page_of(global), 0x048D_1401);
     // The same by calls: the byte lands at that global address.
     let mut b = Board::fresh(shape(2, 0, 1, 4));
-    assert_eq!(b.map(0x048D_1401, 1, true), done(0, 0));
-    assert_eq!(b.attach(0, 1, 0x12345, true), done(0, 0));
-    assert_eq!(b.user_access(0, true, 1, 0x0040_1234, 0x5A), done(0, 0));
-    assert_eq!(b.supervisor_access(false, 1, 0x048_D140_1234, 0), done(0x5A, 1));
+    assert_eq!(b.map(0x048D_1401, 1, true), DONE);
+    assert_eq!(b.attach(0, 1, 0x12345, true), DONE);
+    assert_eq!(b.user_access(0, true, 1, 0x0040_1234, 0x5A), done(0, REFILLED));
+    assert_eq!(b.supervisor_access(false, 1, 0x048_D140_1234, 0), done(0x5A, HIT));
     let place = place_of(0x048_D140_123, 4);
     assert_eq!(b.record(place), rec(0x048_D140_123, 256 + 0x23, true, true));
 }
@@ -81,10 +81,10 @@ fn p10_p11_segments() {
 #[test]
 fn p12_user_end() {
     let mut b = ready();
-    assert_eq!(b.attach(0, 511, 4_190_207, true), done(0, 0));
-    assert_eq!(b.map(0xFFBF_FFFF, 2, true), done(0, 0));
-    assert_eq!(b.user_access(0, true, 1, 0x7FFF_FFFF, 8), done(0, 0));
-    assert_eq!(b.user_access(0, false, 1, 0x7FFF_FFFF, 0), done(8, 1));
+    assert_eq!(b.attach(0, 511, 4_190_207, true), DONE);
+    assert_eq!(b.map(0xFFBF_FFFF, 2, true), DONE);
+    assert_eq!(b.user_access(0, true, 1, 0x7FFF_FFFF, 8), done(0, REFILLED));
+    assert_eq!(b.user_access(0, false, 1, 0x7FFF_FFFF, 0), done(8, HIT));
     assert_eq!(b.user_access(0, false, 1, 0x8000_0000, 0), no(5));
     assert_eq!(b.user_access(0, false, 4, 0xFFFF_FFFC, 0), no(5));
 }
@@ -94,7 +94,7 @@ fn width_4_at_2() {
     let mut b = ready();
     assert_eq!(b.user_access(0, false, 4, 2, 0), no(4));
     assert_eq!(b.supervisor_access(false, 4, 2, 0), no(4));
-    assert_eq!(b.user_access(0, false, 2, 2, 0), done(0, 0));
+    assert_eq!(b.user_access(0, false, 2, 2, 0), done(0, REFILLED));
     for width in [0, 3, 5, 8, u32::MAX] {
         assert_eq!(b.user_access(0, false, width, 0, 0), no(4));
         assert_eq!(b.supervisor_access(false, width, 0, 0), no(4));
@@ -123,7 +123,8 @@ fn values_and_widths() {
                 let mut plain = Plain::of(&b);
                 let first = b.clone().step(load).0;
                 assert_eq!(first.number, loaded, "{load:?}");
-                assert_eq!(b.step(store).0, no(stored), "{store:?}");
+                let answer = b.step(store).0;
+                assert_eq!((answer.number, answer.value), (stored, 0), "{store:?}");
                 assert_eq!(plain.step(store), PlainAnswer { number: stored, value: 0 }, "{store:?}");
                 // Loaded back, the value is whole, or what was there before.
                 let (now, last) = (b.step(load).0, plain.step(load));
@@ -150,13 +151,13 @@ fn line_counts() {
 fn largest_cache() {
     let last = PROCESSES_MAX - 1;
     let mut b = Board::fresh(shape(3, 0, PROCESSES_MAX, LINES_MAX));
-    assert_eq!(b.map(0xFFBF_FFFF, 2, true), done(0, 0));
+    assert_eq!(b.map(0xFFBF_FFFF, 2, true), DONE);
     assert_eq!(b.attach(last + 1, 511, 4_190_207, true), no(2));
-    assert_eq!(b.attach(last, 511, 4_190_207, true), done(0, 0));
-    assert_eq!(b.user_access(last, true, 4, 0x7FFF_FFFC, 0x0708_090A), done(0, 0));
+    assert_eq!(b.attach(last, 511, 4_190_207, true), DONE);
+    assert_eq!(b.user_access(last, true, 4, 0x7FFF_FFFC, 0x0708_090A), done(0, REFILLED));
     assert_eq!(b.record(LINES_MAX - 1), rec(0xFF_BFFF_FFFF, 2 * 256 + 255, true, true));
     assert_eq!(b.look(2 * 256 + 255).1[12..], [7, 8, 9, 10]);
-    assert_eq!(b.unmap(0xFFBF_FFFF), done(0, 0));
+    assert_eq!(b.unmap(0xFFBF_FFFF), DONE);
     assert_eq!(b.memory[3 * 4096 - 4..], [7, 8, 9, 10]);
 }
 

@@ -34,11 +34,19 @@ fn check(start: &Board, call: Call, rows: &[Row]) {
         }
         let (answer, event) = board.step(&now);
         assert_eq!(answer.number, want, "{now:?} set {set:b}");
+        // The starts hold no lines, so a cached access that is done refills, with nothing to write back.
+        let mark = match now {
+            _ if want != 0 => NO_ACCESS,
+            Call::SupervisorAccess { global: 0..=0xFFFF_FFFF, .. } => UNCACHED,
+            Call::UserAccess { .. } | Call::SupervisorAccess { .. } => REFILLED,
+            _ => NO_ACCESS,
+        };
+        assert_eq!(answer.mark, mark, "{now:?} set {set:b}");
         if want != 0 {
             assert_eq!((answer, event), (no(want), Event::Refused(want)), "{now:?}");
             assert_eq!(board, before, "{now:?}");
         }
-        // The starts hold no lines, so the plain machine has the same number.
+        // For the same reason the plain machine has the same number.
         let plain_before = plain.clone();
         assert_eq!(plain.step(&now), PlainAnswer { number: want, value: answer.value }, "plain {now:?}");
         if want != 0 {
@@ -129,7 +137,7 @@ fn user_access() {
     let mut b = ready();
     b.slots[0] = 2048 * 2;
     b.words[1] = 0x20_0000 * 4 + 1;
-    assert_eq!(b.user_access(0, false, 4, 0, 0), done(0, 0));
+    assert_eq!(b.user_access(0, false, 4, 0, 0), done(0, REFILLED));
 }
 
 #[test]
@@ -140,7 +148,7 @@ fn supervisor_ordinary() {
         // The write bit is not asked.
         let mut b = ready();
         b.words[1] = 0x20_0000 * 4 + 1;
-        assert_eq!(b.step(&call).0, done(0, 0));
+        assert_eq!(b.step(&call).0, done(0, REFILLED));
     }
 }
 
@@ -186,7 +194,7 @@ fn supervisor_prefix_1() {
     assert_eq!(b.supervisor_access(false, 1, 0x1_0000_4000, 0), no(12));
     // A held prefix 1 line whose frame's word is not 0: 10.
     let mut b = ready();
-    assert_eq!(b.supervisor_access(false, 1, 0x1_0000_2000, 0), done(u32::from(b.memory[8192]), 0));
+    assert_eq!(b.supervisor_access(false, 1, 0x1_0000_2000, 0), done(u32::from(b.memory[8192]), REFILLED));
     b.words[2] = 4;
     assert_eq!(b.supervisor_access(false, 1, 0x1_0000_2000, 0), no(10));
 }
@@ -370,7 +378,7 @@ fn drop_tag() {
     let mut b = ready();
     b.tag(0x2000_0005);
     check(&b, Call::DropTag, &[ONE, NOT_PENDING]);
-    assert_eq!(b.drop_tag(), done(0, 0));
+    assert_eq!(b.drop_tag(), DONE);
     assert_eq!(b.tag, (false, 0));
 }
 
@@ -461,11 +469,11 @@ fn uncached_ends() {
     let mut b = Board::fresh(shape(2, 2, 1, 1));
     assert_eq!(b.map(0x20_0000, 1, true), no(2));
     assert_eq!(b.map(0x20_0000, 2, true), no(2));
-    assert_eq!(b.supervisor_access(true, 4, 0x1FFC, 1), done(0, 0));
+    assert_eq!(b.supervisor_access(true, 4, 0x1FFC, 1), done(0, UNCACHED));
     assert_eq!(b.supervisor_access(true, 4, 0x2000, 1), no(12));
     assert_eq!(b.supervisor_access(true, 4, 0x1_0000_0000, 1), no(12));
     let mut b = Board::fresh(shape(2, 0, 1, 1));
-    assert_eq!(b.map(0x20_0000, 0, true), done(0, 0));
+    assert_eq!(b.map(0x20_0000, 0, true), DONE);
     assert_eq!(b.supervisor_access(true, 4, 0, 1), no(12));
-    assert_eq!(b.supervisor_access(true, 4, 0x1_0000_1000, 1), done(0, 0));
+    assert_eq!(b.supervisor_access(true, 4, 0x1_0000_1000, 1), done(0, REFILLED));
 }

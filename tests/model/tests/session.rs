@@ -1,4 +1,4 @@
-//! 01's session and the shortcuts it names.
+//! 01's session, with the marks that CR 8 gives it, and the shortcuts that 01 names.
 mod common;
 use common::*;
 use model::*;
@@ -7,15 +7,15 @@ use std::fmt::Write;
 const TABLE: &str = "call answer value hit
 1 0 0 0
 2 0 0 0
-3 0 0 0
+3 0 0 2
 4 0 50 1
-5 0 0 0
-6 0 50 0
+5 0 0 3
+6 0 50 2
 7 6 0 0
 8 0 0 0
 9 8 0 0
 10 0 0 0
-11 0 0 0
+11 0 0 2
 12 9 0 0
 ";
 
@@ -107,25 +107,25 @@ fn session_final_state() {
 #[test]
 fn unmap_writes_back_and_bytes_stay() {
     let mut b = ready();
-    assert_eq!(b.user_access(0, true, 4, 0, 50), done(0, 0));
+    assert_eq!(b.user_access(0, true, 4, 0, 50), done(0, REFILLED));
     assert_eq!(b.memory[4096..4112], [0; 16]);
     assert_eq!(b.step(&Call::Unmap { page: 0x20_0000 }).1, Event::Unmapped { written: 1, dropped: 1 });
     assert_eq!(b.memory[4096..4100], [0, 0, 0, 50]);
     assert_eq!(b.records, vec![0; 4]);
     // The sixteen bytes stay in the cache.
     assert_eq!(b.cache[..4], [0, 0, 0, 50]);
-    assert_eq!(b.supervisor_access(false, 4, 0x1_0000_1000, 0), done(50, 0));
-    assert_eq!(b.map(0x20_0000, 1, true), done(0, 0));
-    assert_eq!(b.user_access(0, false, 4, 0, 0), done(0, 0));
+    assert_eq!(b.supervisor_access(false, 4, 0x1_0000_1000, 0), done(50, REFILLED));
+    assert_eq!(b.map(0x20_0000, 1, true), DONE);
+    assert_eq!(b.user_access(0, false, 4, 0, 0), done(0, REFILLED));
 }
 
 /// "Map without dropping the prefix 1 lines: a later write-back puts old bytes over a user page."
 #[test]
 fn map_drops_prefix1_lines() {
     let mut b = ready();
-    assert_eq!(b.supervisor_access(true, 4, 0x1_0000_2000, 0x0102_0304), done(0, 0));
+    assert_eq!(b.supervisor_access(true, 4, 0x1_0000_2000, 0x0102_0304), done(0, REFILLED));
     let (a, e) = b.step(&Call::Map { page: 0x30_0000, frame: 2, write: true });
-    assert_eq!((a, e), (done(0, 0), Event::Mapped { by_page: 0, by_prefix1: 1 }));
+    assert_eq!((a, e), (DONE, Event::Mapped { by_page: 0, by_prefix1: 1 }));
     b.flush_all();
     assert_eq!(b.look(512), (0, vec![0; 16]));
     assert!(b.memory[8192..12288].iter().all(|&x| x == 0));
@@ -136,11 +136,11 @@ fn map_drops_prefix1_lines() {
 fn load_and_map_keeps_a_changed_line() {
     let mut b = ready();
     b.user_access(0, true, 4, 0, 50);
-    assert_eq!(b.tag(0x2000_0000), done(0, 0));
+    assert_eq!(b.tag(0x2000_0000), DONE);
     let before = b.clone();
-    assert_eq!(b.step(&Call::LoadAndMap { line: 256 }), (done(0, 0), Event::FoundHeld));
+    assert_eq!(b.step(&Call::LoadAndMap { line: 256 }), (DONE, Event::FoundHeld));
     assert_eq!(b, Board { tag: (false, 0), ..before });
-    assert_eq!(b.user_access(0, false, 1, 3, 0), done(50, 1));
+    assert_eq!(b.user_access(0, false, 1, 3, 0), done(50, HIT));
 }
 
 #[test]
@@ -153,10 +153,10 @@ fn load_and_map_inserts_with_write_back_and_permission() {
         b.protect(0x20_0000, write);
         b.tag(0x2000_0000);
         let (a, e) = b.step(&Call::LoadAndMap { line: 256 });
-        assert_eq!((a, e), (done(0, 0), Event::Inserted { wrote_back: true }));
+        assert_eq!((a, e), (DONE, Event::Inserted { wrote_back: true }));
         assert_eq!(b.memory[4128..4132], [0xAA, 0xBB, 0xCC, 0xDD]);
         assert_eq!(b.record(0), rec(0x2000_0000, 256, false, write));
-        assert_eq!(b.user_access(0, false, 1, 3, 0), done(6, 1));
+        assert_eq!(b.user_access(0, false, 1, 3, 0), done(6, HIT));
     }
 }
 
@@ -164,12 +164,12 @@ fn load_and_map_inserts_with_write_back_and_permission() {
 #[test]
 fn names_are_compared_whole() {
     let mut b = ready();
-    assert_eq!(b.attach(0, 1, 2049, true), done(0, 0));
-    assert_eq!(b.attach(0, 2, 2048 + 0x20_0000, true), done(0, 0));
+    assert_eq!(b.attach(0, 1, 2049, true), DONE);
+    assert_eq!(b.attach(0, 2, 2048 + 0x20_0000, true), DONE);
     b.user_access(0, true, 1, 0, 50);
     assert_eq!(b.user_access(0, false, 1, 1 << 22, 0), no(8));
     assert_eq!(b.user_access(0, false, 1, 2 << 22, 0), no(8));
-    assert_eq!(b.user_access(0, false, 1, 0, 0), done(50, 1));
+    assert_eq!(b.user_access(0, false, 1, 0, 0), done(50, HIT));
 }
 
 /// "Protect that changes the frame word and forgets the lines."
@@ -177,16 +177,16 @@ fn names_are_compared_whole() {
 fn protect_changes_word_and_lines() {
     let mut b = ready();
     b.user_access(0, true, 1, 0, 50);
-    assert_eq!(b.step(&Call::Protect { page: 0x20_0000, write: false }), (done(0, 0), Event::Protected { lines: 1 }));
+    assert_eq!(b.step(&Call::Protect { page: 0x20_0000, write: false }), (DONE, Event::Protected { lines: 1 }));
     assert_eq!(b.words[1], 0x20_0000 * 4 + 1);
     assert_eq!(b.record(0), rec(0x2000_0000, 256, true, false));
     assert_eq!(b.user_access(0, true, 1, 0, 51), no(9));
-    assert_eq!(b.user_access(0, false, 1, 0, 0), done(50, 1));
+    assert_eq!(b.user_access(0, false, 1, 0, 0), done(50, HIT));
     // "ordinary (page write bit not asked)"
-    assert_eq!(b.supervisor_access(true, 1, 0x2_0000_0000, 52), done(0, 1));
+    assert_eq!(b.supervisor_access(true, 1, 0x2_0000_0000, 52), done(0, HIT));
     assert_eq!(b.record(0), rec(0x2000_0000, 256, true, false));
-    assert_eq!(b.protect(0x20_0000, true), done(0, 0));
-    assert_eq!(b.user_access(0, true, 1, 0, 53), done(0, 1));
+    assert_eq!(b.protect(0x20_0000, true), DONE);
+    assert_eq!(b.user_access(0, true, 1, 0, 53), done(0, HIT));
 }
 
 /// Most significant byte first; a store writes as many bytes as its width.
@@ -206,10 +206,10 @@ fn byte_order() {
     let (records, cache) = (b.records.clone(), b.cache.clone());
     assert_eq!(
         b.step(&Call::SupervisorAccess { store: true, width: 4, global: 16, value: 0xDEAD_BEEF }),
-        (done(0, 0), Event::Uncached)
+        (done(0, UNCACHED), Event::Uncached)
     );
     assert_eq!(b.memory[16..20], [0xDE, 0xAD, 0xBE, 0xEF]);
-    assert_eq!(b.supervisor_access(false, 2, 18, 0), done(0xBEEF, 0));
+    assert_eq!(b.supervisor_access(false, 2, 18, 0), done(0xBEEF, UNCACHED));
     assert_eq!((b.records, b.cache), (records, cache));
 }
 
@@ -217,16 +217,16 @@ fn byte_order() {
 #[test]
 fn shared_segments() {
     let mut b = ready();
-    assert_eq!(b.attach(0, 511, 2048, false), done(0, 0));
-    assert_eq!(b.attach(1, 7, 2048, true), done(0, 0));
+    assert_eq!(b.attach(0, 511, 2048, false), DONE);
+    assert_eq!(b.attach(1, 7, 2048, true), DONE);
     b.user_access(0, true, 4, 0, 9);
-    assert_eq!(b.user_access(0, false, 4, 511 << 22, 0), done(9, 1));
-    assert_eq!(b.user_access(1, false, 4, 7 << 22, 0), done(9, 1));
+    assert_eq!(b.user_access(0, false, 4, 511 << 22, 0), done(9, HIT));
+    assert_eq!(b.user_access(1, false, 4, 7 << 22, 0), done(9, HIT));
     assert_eq!(b.user_access(0, true, 4, 511 << 22, 0), no(7));
-    assert_eq!(b.attach(1, 7, 2050, true), done(0, 0));
+    assert_eq!(b.attach(1, 7, 2050, true), DONE);
     assert_eq!(b.user_access(1, false, 4, 7 << 22, 0), no(8));
-    assert_eq!(b.detach(1, 7), done(0, 0));
-    assert_eq!(b.detach(1, 7), done(0, 0));
+    assert_eq!(b.detach(1, 7), DONE);
+    assert_eq!(b.detach(1, 7), DONE);
     assert_eq!(b.user_access(1, false, 4, 7 << 22, 0), no(6));
 }
 
@@ -236,7 +236,7 @@ fn flush_all_writes_back_and_drops() {
     b.user_access(0, true, 4, 0, 1);
     b.user_access(0, false, 4, 16, 0);
     b.tag(0x2000_0000);
-    assert_eq!(b.step(&Call::FlushAll), (done(0, 0), Event::Flushed { written: 1, dropped: 2 }));
+    assert_eq!(b.step(&Call::FlushAll), (DONE, Event::Flushed { written: 1, dropped: 2 }));
     assert_eq!(b.records, vec![0; 4]);
     assert_eq!(b.memory[4096..4100], [0, 0, 0, 1]);
     assert_eq!(b.tag, (true, 0x2000_0000));
@@ -249,10 +249,10 @@ fn prefix_1_record() {
     let before = b.memory.clone();
     assert_eq!(
         b.step(&Call::SupervisorAccess { store: false, width: 1, global: 0x1_0000_2035, value: 0 }),
-        (done(u32::from(before[0x2035]), 0), Event::Miss)
+        (done(u32::from(before[0x2035]), REFILLED), Event::Miss)
     );
     assert_eq!(b.record(1), rec(0x1000_0203, 0x203, false, true));
-    assert_eq!(b.supervisor_access(true, 1, 0x1_0000_2035, 1), done(0, 1));
+    assert_eq!(b.supervisor_access(true, 1, 0x1_0000_2035, 1), done(0, HIT));
     assert_eq!(b.record(1), rec(0x1000_0203, 0x203, true, true));
     // The store stays in the cache; look shows it.
     assert_eq!(b.memory, before);

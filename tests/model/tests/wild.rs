@@ -29,9 +29,9 @@ fn stray_records_count_as_empty() {
         // Look passes over it.
         assert_eq!(b.look(256), (0, vec![0; 16]));
         // Flush, protect and map leave it as it is and write nothing.
-        assert_eq!(b.step(&Call::FlushAll), (done(0, 0), Event::Flushed { written: 0, dropped: 0 }));
+        assert_eq!(b.step(&Call::FlushAll), (DONE, Event::Flushed { written: 0, dropped: 0 }));
         assert_eq!(b, start);
-        assert_eq!(b.step(&Call::Protect { page: PAGE, write: true }), (done(0, 0), Event::Protected { lines: 0 }));
+        assert_eq!(b.step(&Call::Protect { page: PAGE, write: true }), (DONE, Event::Protected { lines: 0 }));
         assert_eq!(b, start);
         let (_, e) = b.step(&Call::Unmap { page: PAGE });
         assert_eq!(e, Event::Unmapped { written: 0, dropped: 0 });
@@ -42,7 +42,7 @@ fn stray_records_count_as_empty() {
         // A miss overwrites what stands at its place, without write-back.
         assert_eq!(
             b.step(&Call::UserAccess { process: 0, store: false, width: 1, address: 0, value: 0 }),
-            (done(0, 0), Event::Miss)
+            (done(0, REFILLED), Event::Miss)
         );
         assert_eq!(b.record(0), rec(NAME, 256, false, true));
         assert_eq!(b.memory, start.memory);
@@ -60,12 +60,12 @@ fn hit_without_mapping_and_write_back_to_own_line() {
     b.words[1] = 0;
     put(&mut b, 0, rec(NAME, 7, false, true));
     paint(&mut b, 0, 0x11);
-    assert_eq!(b.user_access(0, false, 4, 0, 0), done(0x1111_1111, 1));
-    assert_eq!(b.supervisor_access(false, 4, 0x2_0000_0000, 0), done(0x1111_1111, 1));
-    assert_eq!(b.supervisor_access(true, 1, 0x2_0000_0003, 0x11), done(0, 1));
+    assert_eq!(b.user_access(0, false, 4, 0, 0), done(0x1111_1111, HIT));
+    assert_eq!(b.supervisor_access(false, 4, 0x2_0000_0000, 0), done(0x1111_1111, HIT));
+    assert_eq!(b.supervisor_access(true, 1, 0x2_0000_0003, 0x11), done(0, HIT));
     assert_eq!(b.record(0), rec(NAME, 7, true, true));
     put(&mut b, 0, rec(NAME, 7, false, true));
-    assert_eq!(b.user_access(0, true, 1, 1, 0x22), done(0, 1));
+    assert_eq!(b.user_access(0, true, 1, 1, 0x22), done(0, HIT));
     assert_eq!(b.record(0), rec(NAME, 7, true, true));
     // Number 9 goes by the record if held, whatever the word says.
     b.words[1] = frame_word(PAGE, true);
@@ -73,7 +73,7 @@ fn hit_without_mapping_and_write_back_to_own_line() {
     assert_eq!(b.user_access(0, true, 1, 1, 0x33), no(9));
     b.words[1] = frame_word(PAGE, false);
     put(&mut b, 0, rec(NAME, 7, true, true));
-    assert_eq!(b.user_access(0, true, 1, 2, 0x33), done(0, 1));
+    assert_eq!(b.user_access(0, true, 1, 2, 0x33), done(0, HIT));
     // Write-back by a colliding miss: line 7, not the mapped 256.
     let old = b.memory[256 * 16..257 * 16].to_vec();
     let (_, e) = b.step(&Call::UserAccess { process: 0, store: false, width: 1, address: 32, value: 0 });
@@ -89,11 +89,11 @@ fn fill_sees_the_write_back() {
     // Place 0 holds a changed line of another name with physical line 258, which is that of NAME + 2.
     put(&mut b, 0, rec(0x3000_0000, 258, true, true));
     paint(&mut b, 0, 0x44);
-    assert_eq!(b.user_access(0, false, 1, 32, 0), done(0x44, 0));
+    assert_eq!(b.user_access(0, false, 1, 32, 0), done(0x44, WROTE_BACK));
     // Never from another record: place 1 holds line 256 with other bytes.
     put(&mut b, 1, rec(0x3000_0001, 256, true, true));
     paint(&mut b, 1, 0x55);
-    assert_eq!(b.user_access(0, false, 1, 0, 0), done(0, 0));
+    assert_eq!(b.user_access(0, false, 1, 0, 0), done(0, REFILLED));
 }
 
 /// Names from 2^40 up, of prefix 0 and of the page table region are held, written back and dropped.
@@ -107,7 +107,7 @@ fn odd_names_are_held() {
         assert_eq!(b.look(300), (0, vec![0x66; 16]));
         // Not a hit for NAME, nor dropped by its page.
         let mut c = b.clone();
-        assert_eq!(c.user_access(0, false, 1, 0, 0), done(0, 0));
+        assert_eq!(c.user_access(0, false, 1, 0, 0), done(0, WROTE_BACK));
         assert_eq!(c.memory[4800..4816], [0x66; 16]);
         let mut c = b.clone();
         assert_eq!(c.step(&Call::Unmap { page: PAGE }).1, Event::Unmapped { written: 0, dropped: 0 });
@@ -156,15 +156,15 @@ fn doubled_page() {
     assert_eq!(b.user_access(0, false, 1, 0, 0).number, 0);
     assert_eq!(b.record(0), rec(NAME, 512, false, false));
     assert_eq!(b.map(PAGE, 1, true), no(10));
-    assert_eq!(b.protect(PAGE, true), done(0, 0));
+    assert_eq!(b.protect(PAGE, true), DONE);
     assert_eq!(b.words[2..], [frame_word(PAGE, true), frame_word(PAGE, true)]);
     assert_eq!(b.record(0), rec(NAME, 512, false, true));
-    assert_eq!(b.unmap(PAGE), done(0, 0));
+    assert_eq!(b.unmap(PAGE), DONE);
     assert_eq!(b.words, vec![frame_word(PAGE, true), frame_word(PAGE + 1, true), 0, frame_word(PAGE, true)]);
     assert_eq!(b.map(PAGE, 2, true), no(11));
-    assert_eq!(b.unmap(PAGE), done(0, 0));
+    assert_eq!(b.unmap(PAGE), DONE);
     assert_eq!(b.unmap(PAGE), no(8));
-    assert_eq!(b.map(PAGE, 2, true), done(0, 0));
+    assert_eq!(b.map(PAGE, 2, true), DONE);
 }
 
 /// Words of no exact form, or of pages that are not ordinary, map nothing and are not free.
@@ -180,7 +180,7 @@ fn odd_words() {
         assert_eq!(b.protect(PAGE, true), no(8));
         assert_eq!(b.map(PAGE, 1, true), no(10));
         assert_eq!(b.supervisor_access(false, 1, 0x1_0000_1000, 0), no(10));
-        assert_eq!(b.map(PAGE, 2, true), done(0, 0));
+        assert_eq!(b.map(PAGE, 2, true), DONE);
     }
 }
 
@@ -200,7 +200,7 @@ fn odd_tags() {
         }
         assert_eq!(b.load_and_map(1024), no(2));
         assert_eq!(b, before);
-        assert_eq!(b.drop_tag(), done(0, 0));
+        assert_eq!(b.drop_tag(), DONE);
         assert_eq!(b.tag, (false, 0));
     }
     // Not pending: the name means nothing.
@@ -208,9 +208,9 @@ fn odd_tags() {
     b.tag = (false, u64::MAX);
     assert_eq!(b.drop_tag(), no(3));
     assert_eq!(b.load_and_map(0), no(3));
-    assert_eq!(b.user_access(0, false, 1, 0, 0), done(0, 0));
+    assert_eq!(b.user_access(0, false, 1, 0, 0), done(0, REFILLED));
     assert_eq!(b.tag, (false, u64::MAX));
-    assert_eq!(b.tag(NAME), done(0, 0));
+    assert_eq!(b.tag(NAME), DONE);
     assert_eq!(b.tag, (true, NAME));
 }
 
@@ -228,7 +228,7 @@ fn load_and_map_held_elsewhere() {
     assert_eq!(b.load_and_map(300), no(8));
     b.words[1] = before.words[1];
     assert_eq!(b, before);
-    assert_eq!(b.step(&Call::LoadAndMap { line: 256 }), (done(0, 0), Event::FoundHeld));
+    assert_eq!(b.step(&Call::LoadAndMap { line: 256 }), (DONE, Event::FoundHeld));
     assert_eq!(b, Board { tag: (false, 0), ..before });
 }
 
@@ -248,7 +248,7 @@ fn map_drops_by_name_only() {
     let before = b.clone();
     assert_eq!(
         b.step(&Call::Map { page: PAGE, frame: 2, write: false }),
-        (done(0, 0), Event::Mapped { by_page: 1, by_prefix1: 1 })
+        (DONE, Event::Mapped { by_page: 1, by_prefix1: 1 })
     );
     assert_eq!(b.records[..4], [0; 4]);
     assert_eq!(b.records[4..], before.records[4..]);
@@ -265,7 +265,7 @@ fn unmap_leaves_tag_and_uses_own_lines() {
     put(&mut b, 0, rec(NAME, 3, true, true));
     paint(&mut b, 0, 0x77);
     b.tag(NAME);
-    assert_eq!(b.unmap(PAGE), done(0, 0));
+    assert_eq!(b.unmap(PAGE), DONE);
     assert_eq!(b.memory[48..64], [0x77; 16]);
     assert_eq!(b.tag, (true, NAME));
     assert_eq!(b.load_and_map(256), no(8));
@@ -277,16 +277,16 @@ fn prefix_1_line_without_permission() {
     let mut b = ready();
     put(&mut b, 0, rec(0x1000_0200, 3, false, false));
     paint(&mut b, 0, 0x12);
-    assert_eq!(b.supervisor_access(true, 1, 0x1_0000_2000, 0x34), done(0, 1));
+    assert_eq!(b.supervisor_access(true, 1, 0x1_0000_2000, 0x34), done(0, HIT));
     assert_eq!(b.record(0), rec(0x1000_0200, 3, true, false));
-    assert_eq!(b.supervisor_access(false, 2, 0x1_0000_2000, 0), done(0x3412, 1));
+    assert_eq!(b.supervisor_access(false, 2, 0x1_0000_2000, 0), done(0x3412, HIT));
 }
 
 /// A store marks its line changed even if the bytes stay the same.
 #[test]
 fn store_of_equal_bytes() {
     let mut b = ready();
-    assert_eq!(b.user_access(0, true, 4, 0, 0), done(0, 0));
+    assert_eq!(b.user_access(0, true, 4, 0, 0), done(0, REFILLED));
     assert_eq!(b.record(0), rec(NAME, 256, true, true));
 }
 
@@ -297,7 +297,7 @@ fn odd_slots() {
         let mut b = ready();
         b.slots[0] = word;
         assert_eq!(b.user_access(0, true, 1, 0, 0), no(6));
-        assert_eq!(b.detach(0, 0), done(0, 0));
+        assert_eq!(b.detach(0, 0), DONE);
         assert_eq!(b.slots[0], 0);
     }
 }
@@ -422,6 +422,7 @@ fn laws_on_random_wild_boards() {
     let mut r = Rng(0x9E37_79B9_7F4A_7C15);
     let mut seen = [0u32; 14];
     let mut beside = [0u32; 14];
+    let mut marks = [[0u32; 5]; 2];
     for _ in 0..4_000 {
         let mut b = wild_board(&mut r);
         for _ in 0..8 {
@@ -459,7 +460,7 @@ fn laws_on_random_wild_boards() {
                     assert_eq!((back.number, back.value), (0, value), "{call:?}");
                 }
                 Some(_) => {}
-                None => assert_eq!((a.value, a.mark), (0, 0)),
+                None => assert_eq!(a, DONE),
             }
             let global = match call {
                 Call::UserAccess { process, address, .. } => {
@@ -467,15 +468,32 @@ fn laws_on_random_wild_boards() {
                     Some((u64::from(word >> 1) << 22) | u64::from(address & 0x3F_FFFF))
                 }
                 Call::SupervisorAccess { global, .. } if global >= 1 << 32 => Some(global),
+                Call::SupervisorAccess { .. } => {
+                    assert_eq!(a.mark, UNCACHED);
+                    None
+                }
                 _ => None,
             };
+            if let Some((store, ..)) = access_of(&call) {
+                marks[usize::from(store)][a.mark as usize] += 1;
+                // The records decide the mark, and no byte does.
+                let mut other = before.clone();
+                other.cache.fill(r.next() as u8);
+                other.memory.fill(r.next() as u8);
+                assert_eq!(other.step(&call).0.mark, a.mark, "{call:?}");
+            }
             if let Some(global) = global {
                 // "the mark is defined by the record before the call"
                 let name = global >> 4;
                 let place = name & (b.shape.lines - 1);
                 let old = before.record(place);
-                let held = old.valid && old.name == name && old.line < 256 * b.shape.frames;
-                assert_eq!(a.mark, u32::from(held));
+                let holds = old.valid && old.name & (b.shape.lines - 1) == place && old.line < 256 * b.shape.frames;
+                let mark = match (holds, old.name == name, old.changed) {
+                    (true, true, _) => HIT,
+                    (true, false, true) => WROTE_BACK,
+                    _ => REFILLED,
+                };
+                assert_eq!(a.mark, mark, "{call:?} after {old:?}");
                 // "An access alters no record but the one at its own place."
                 for other in (0..b.shape.lines).filter(|&p| p != place) {
                     assert_eq!(b.record(other), before.record(other));
@@ -483,9 +501,12 @@ fn laws_on_random_wild_boards() {
                 }
                 assert_eq!(b.record(place).name, name);
                 // Memory changes only by the write-back.
-                if e != Event::MissWriteBack {
-                    assert_eq!(b.memory, before.memory);
+                let mut memory = before.memory.clone();
+                if mark == WROTE_BACK {
+                    let (line, at) = (16 * old.line as usize, 16 * place as usize);
+                    memory[line..line + 16].copy_from_slice(&before.cache[at..at + 16]);
                 }
+                assert_eq!(b.memory, memory);
             }
             match e {
                 Event::Flushed { written, dropped } => {
@@ -511,6 +532,8 @@ fn laws_on_random_wild_boards() {
     // Number 1 has its own tests; every other number has been met, those of an access beside a value that does not fit too.
     assert!(seen.iter().enumerate().all(|(n, &count)| n == 1 || count > 0), "{seen:?}");
     assert!(beside.iter().enumerate().all(|(n, &count)| matches!(n, 1 | 11 | 13) || count > 0), "{beside:?}");
+    // So has every mark that a done load or store may have; 0 is none of them.
+    assert!(marks.iter().all(|counts| counts[0] == 0 && counts[1..].iter().all(|&count| count > 0)), "{marks:?}");
 }
 
 /// Lengths and numbers that disagree, huge arguments: no call panics, and each gives 1.

@@ -23,5 +23,5 @@ line-access-spec =
     (λ c.
     let d = c .before .before .before .before .before .before .before .before .before .before .before .before .before .before .before in
     let e = d .before .before .before .before .before .before in
-    memory-inserted _ _ _ _ _ _ _ _ _ (e .before .before .before .before .before .way-to .ensures) _ _ (e .before .before .before .line .given .1) _ _ _ _ _ _ _ _ (e .if2 .left)
+    memory-inserted _ _ _ _ _ _ _ _ _ (e .before .before .before .before .before .way-to .ensures) _ _ (e .before .before .before .line .given .1) _ _ _ _ _ _ _ _ _ (e .if2 .left)
     (d .before .before .before .before .before .name .ensures) (d .before .before .before .before .place-of .ensures .0) (d .insert .ensures) (c .before .before .before .before .perform-on2 .ensures)))

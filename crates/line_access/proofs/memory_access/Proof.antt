@@ -9,5 +9,5 @@ memory-access-spec =
     tie.close (tie.spec
     (search needs) (search needs) (search needs) (search needs)
     (λ c. search (needs, memory-stored))
-    (search needs) (search needs)
+    (search needs) (search needs) (search needs)
     (λ c. search (needs, memory-loaded)))

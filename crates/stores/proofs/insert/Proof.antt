@@ -8,4 +8,4 @@ pub insert-spec : {M : Type 1} → statement M
 insert-spec =
     tie.close (tie.spec
     (search needs) (search needs) (search needs) (search needs) (search needs) (search needs)
-    (λ c. search (needs, inserted-by)))
+    (λ c. (search (needs, inserted-by), search needs)))

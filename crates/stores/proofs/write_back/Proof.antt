@@ -1,7 +1,7 @@
 -- `write_back` copies a held and changed line: its physical line is inside memory.
 use native.Mathlib.Omega.{arith}
 use Rattle.lines.proofs.Holders.{holds-inside}
-use Rattle.stores.proofs.Stores.{written-not, written-clean, written-now}
+use Rattle.stores.proofs.Stores.{written-not, written-clean, written-now, writes-not, writes-clean, writes-now}
 use borrow.Author.Needs.{needs}
 use Rattle.stores.proofs.write_back.Statement.{statement}
 use Rattle.stores.proofs.write_back.Tie as tie
@@ -12,6 +12,6 @@ write-back-spec =
     (search needs) (search needs)
     (λ c κs. omega (arith, holds-inside _ _ _ _ (c .before .before .before .holds .ensures) (c .before .before .if1 .taken)))
     (search needs)
-    (λ c. search (needs, written-now))
-    (λ c. search (needs, written-clean))
-    (λ c. search (needs, written-not)))
+    (λ c. (search (needs, written-now), search (needs, writes-now)))
+    (λ c. (search (needs, written-clean), search (needs, writes-clean)))
+    (λ c. (search (needs, written-not), search (needs, writes-not))))

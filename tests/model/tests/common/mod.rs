@@ -1,4 +1,5 @@
 #![allow(dead_code)]
+pub use model::mark::*;
 use model::*;
 
 /// A small xorshift generator with a fixed seed.
@@ -59,12 +60,17 @@ pub fn shape(frames: u64, uncached: u64, processes: u64, lines: u64) -> Shape {
     Shape { frames, uncached, processes, lines }
 }
 
+/// An access that is done.
 pub fn done(value: u32, mark: u32) -> Answer {
     Answer { number: 0, value, mark }
 }
 
-pub fn no(number: u32) -> Answer {
-    Answer { number, value: 0, mark: 0 }
+/// A call that is no access, done.
+pub const DONE: Answer = no(0);
+
+/// Refused by a number.
+pub const fn no(number: u32) -> Answer {
+    Answer { number, value: 0, mark: NO_ACCESS }
 }
 
 /// Puts a record at a place, whatever it is.
@@ -111,8 +117,8 @@ pub fn ready() -> Board {
     for (i, byte) in b.memory.iter_mut().enumerate() {
         *byte = (i % 251) as u8;
     }
-    assert_eq!(b.map(0x20_0000, 1, true), done(0, 0));
-    assert_eq!(b.attach(0, 0, 2048, true), done(0, 0));
+    assert_eq!(b.map(0x20_0000, 1, true), DONE);
+    assert_eq!(b.attach(0, 0, 2048, true), DONE);
     b
 }
 
@@ -120,7 +126,7 @@ pub fn ready() -> Board {
 pub fn ready_for(call: &Call) -> Board {
     let mut b = ready();
     if matches!(call, Call::LoadAndMap { .. } | Call::DropTag) {
-        assert_eq!(b.tag(0x2000_0000), done(0, 0));
+        assert_eq!(b.tag(0x2000_0000), DONE);
     }
     b
 }
