@@ -10,7 +10,6 @@ use Rattle.address.specs.Layout.{pageLines}
 use Rattle.address.specs.Addresses.{nameOf}
 use Rattle.address.specs.declared.Global.{Global}
 use Rattle.pages.specs.Pages.{homeOf}
-use Rattle.board.specs.Answers.{markOf}
 use Rattle.board.specs.declared.Shape.{Shape}
 use Rattle.board.specs.declared.Found.{Found}
 use Rattle.board.specs.declared.Found.the-variants.{At, Nothing}
@@ -18,7 +17,7 @@ use Rattle.board.specs.declared.Home.{Home}
 use Rattle.board.specs.declared.Home.the-variants.{Line as HomeLine, Nowhere}
 use Rattle.line_bytes.specs.Bytes.{number as numberIn, digits, stored, lineOf}
 use Rattle.lines.specs.Records.{lineAt}
-use Rattle.stores.specs.Stores.{Store, store, mustWriteBack, performedAt, currentBy, current}
+use Rattle.stores.specs.Stores.{Store, store, performedAt, currentBy, current}
 use Rattle.lines.specs.Holds.{placeOf, holdsAt, holderOf, keeperOf}
 use Rattle.reach.specs.Reach.{wayByHome, wayBy, wayOf, unreached, mayWrite}
 use Rattle.stores.specs.declared.Access.{Access}
@@ -73,9 +72,10 @@ module _ {s : Shape} {home : ℕ → Home} {x : Store} {m : List ℕ} (sim : Sim
   performed-sim true e = let d = length-digits (a .width) (a .value) in rw e (sim-stored sim i off (digits (a .width) (a .value)) h (omega arith))
   performed-sim false e = rw e sim
 
-  performed-same : Same s home a m (16 * lineAt (x .records) i .physical + off) (performedOn i off a mark x)
+  -- whatever its mark
+  performed-same : (p : ℕ) → lineAt (x .records) i .physical ≡ p → Same s home a m (16 * p + off) (performedOn i off a mark x)
   unfolding performedOn
-  performed-same = record { number = refl; value = performed-value (a .store) refl; sim = performed-sim (a .store) refl }
+  performed-same p e = rw (← e) (record { number = refl; value = performed-value (a .store) refl; sim = performed-sim (a .store) refl })
 
 -- ---- the way to a line, an access to it, and load-and-map
 
@@ -132,12 +132,12 @@ module _ (s : Shape) (words : List ℕ) {x : Store} {m : List ℕ} (homes : Home
     unfolding accessedBy wayBy wayByHome
     accessed-by off a fit (At i) h =
         let q : lineAt (x .records) i .physical ≡ p = let d = held-home s words sim name i h in cc in
-        rw q at (performed-same sim (markOf true false) i off a (holder-some 1 s (x .records) name i h .0) fit)
+        performed-same sim _ i off a (holder-some 1 s (x .records) name i h .0) fit p q
     accessed-by off a fit Nothing h =
         let y = sim-inserted homes sim (placeOf 1 s name) name p w place-low place-stands h e in
         let l = inserted-line homes sim (placeOf 1 s name) name p w place-low place-stands h e in
         let o = inserted-held homes sim (placeOf 1 s name) name p w place-low place-stands h e in
-        rw e (rw l at (performed-same y (markOf false (mustWriteBack 1 s (x .records) (placeOf 1 s name))) (placeOf 1 s name) off a o fit))
+        rw e (performed-same y _ (placeOf 1 s name) off a o fit p (rw l))
 
     loaded-by : (f : Found) → holderOf 1 s (x .records) name ≡ f → Sim 1 s (homeOf s words) (loadedBy s name p w x f) m
     unfolding loadedBy
