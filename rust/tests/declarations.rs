@@ -244,8 +244,7 @@ fn the_source_the_header_and_the_crate_declare_the_same() {
     }
 }
 
-/// The marks have names in all three, but that of no access, which the source writes as 0; the refusals in the header and the
-/// crate.
+/// The marks have names in all three, the refusals in the header and the crate.
 #[test]
 fn numbers_with_names_are_the_same() {
     let [refusals, marks] = &enumerated(&text("include/oaledva.h"))[..] else { panic!("not two enumerations") };
@@ -253,10 +252,9 @@ fn numbers_with_names_are_the_same() {
     assert_eq!(refusals, &numbered(&text("rust/src/refusal.rs")));
     assert_eq!(marks, &numbered(&text("rust/src/mark.rs")));
     let source = constants(&text("crates/board/src/lib.rt"));
-    for (name, number) in marks.iter().filter(|(name, _)| *name != "NO_ACCESS") {
+    for (name, number) in marks {
         assert_eq!(source.get(name), Some(number), "{name}");
     }
-    assert_eq!(marks["NO_ACCESS"], 0);
 }
 
 #[test]

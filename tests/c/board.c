@@ -113,7 +113,7 @@ static void values(void) {
 }
 
 /* The mark as a program tells it apart. */
-static const char *cost(oaledva_answer answer) {
+static const char *went(oaledva_answer answer) {
     switch (oaledva_mark(answer).mark) {
     case OALEDVA_NO_ACCESS: return "no access";
     case OALEDVA_HIT: return "hit";
@@ -169,11 +169,11 @@ static void marks(void) {
     EXPECT(gives(oaledva_board_load(&b, 0, 1, 32), OALEDVA_NOT_MAPPED, 0, OALEDVA_NO_ACCESS));
 
     /* The same by each buffer, and told apart by name. */
-    EXPECT(strcmp(cost(oaledva_map(OALEDVA_LEND(b), PAGE, 1, OALEDVA_WRITABLE)), "no access") == 0);
-    EXPECT(strcmp(cost(oaledva_user_access(OALEDVA_LEND(b), b.tag, 0, OALEDVA_STORE, 4, 0, most)), "refilled") == 0);
-    EXPECT(strcmp(cost(oaledva_user_access(OALEDVA_LEND(b), b.tag, 0, OALEDVA_LOAD, 4, 0, 0)), "hit") == 0);
-    EXPECT(strcmp(cost(oaledva_user_access(OALEDVA_LEND(b), b.tag, 0, OALEDVA_LOAD, 4, 32, 0)), "wrote back") == 0);
-    EXPECT(strcmp(cost(oaledva_supervisor_access(OALEDVA_LEND(b), b.tag, OALEDVA_LOAD, 4, 8, 0)), "uncached") == 0);
+    EXPECT(strcmp(went(oaledva_map(OALEDVA_LEND(b), PAGE, 1, OALEDVA_WRITABLE)), "no access") == 0);
+    EXPECT(strcmp(went(oaledva_user_access(OALEDVA_LEND(b), b.tag, 0, OALEDVA_STORE, 4, 0, most)), "refilled") == 0);
+    EXPECT(strcmp(went(oaledva_user_access(OALEDVA_LEND(b), b.tag, 0, OALEDVA_LOAD, 4, 0, 0)), "hit") == 0);
+    EXPECT(strcmp(went(oaledva_user_access(OALEDVA_LEND(b), b.tag, 0, OALEDVA_LOAD, 4, 32, 0)), "wrote back") == 0);
+    EXPECT(strcmp(went(oaledva_supervisor_access(OALEDVA_LEND(b), b.tag, OALEDVA_LOAD, 4, 8, 0)), "uncached") == 0);
 }
 
 /* How an answer is taken apart, at the ends of its parts: each alone, all at once, and the bits between, which are no part. */

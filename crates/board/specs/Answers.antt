@@ -7,8 +7,8 @@ abbrev pub answer : ℕ → ℕ → ℕ → Answer
 answer number value mark = record { number = number; value = value; mark = mark }
 
 -- refused, or not an access
-abbrev pub markNone : ℕ
-markNone = 0
+abbrev pub markNoAccess : ℕ
+markNoAccess = 0
 
 -- hit: the line was held when the access came
 abbrev pub markHit : ℕ

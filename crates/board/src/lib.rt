@@ -1,7 +1,7 @@
 // 01, "The board": F, U, P and L, their limits and the lengths of the buffers (number 1), and what calls and searches give.
 ghost use mathlib.Core.Path.{_≡_};
 ghost use Prim.Native.Nat.{_≤_};
-ghost use Rattle.board.specs.Answers.{answer, markOf};
+ghost use Rattle.board.specs.Answers.{answer, markNoAccess, markOf};
 ghost use Rattle.board.specs.Lists.{bit};
 ghost use Rattle.board.specs.Shapes.{limitsHold, lengthsAgree, fitsShape, maxFrames, maxProcesses, maxLines};
 
@@ -26,19 +26,10 @@ pub struct Answer {
     pub mark: u32,
 }
 
-// An answer that is a number alone: a refusal, or 0 for a call that is no access. Value 0, mark 0.
-pub fn numbered(number: u32) -> Answer
-    ensures { λ r. ⌜ r ≡ answer number 0 0 ⌝ }
-{
-    Answer {
-        number: number,
-        value: 0,
-        mark: 0,
-    }
-}
-
-// The marks of accesses that are done (CR 8): the line was held; it was refilled; it was refilled, and the line that stood
+// The marks (CR 8): refused, or not an access; the line was held; it was refilled; it was refilled, and the line that stood
 // there written back; the cache wasn't asked.
+pub const NO_ACCESS: u32 = 0;
+
 pub const HIT: u32 = 1;
 
 pub const REFILLED: u32 = 2;
@@ -46,6 +37,17 @@ pub const REFILLED: u32 = 2;
 pub const WROTE_BACK: u32 = 3;
 
 pub const UNCACHED: u32 = 4;
+
+// An answer that is a number alone: a refusal, or 0 for a call that is no access. Value 0, and no mark.
+pub fn numbered(number: u32) -> Answer
+    ensures { λ r. ⌜ r ≡ answer number 0 markNoAccess ⌝ }
+{
+    Answer {
+        number: number,
+        value: 0,
+        mark: NO_ACCESS,
+    }
+}
 
 // The mark of an access by the cache: was its line held when it came, and was a line written back in that call.
 pub fn mark_of(held: bool, back: bool) -> u32

@@ -10,7 +10,7 @@ use Rattle.address.specs.declared.Global.{Global}
 use Rattle.address.specs.declared.Physical.{Physical}
 use Rattle.address.specs.declared.Region.{Region}
 use Rattle.address.specs.declared.Region.the-variants.{Uncached, Cached, PageTable, Ordinary}
-use Rattle.board.specs.Answers.{answer, markNone, markUncached, markOf}
+use Rattle.board.specs.Answers.{answer, markNoAccess, markUncached, markOf}
 use Rattle.slots.specs.Slots.{slotIndex, slotSegment}
 use Rattle.board.specs.declared.Shape.{Shape}
 use Rattle.board.specs.declared.Pending.{Pending}
@@ -39,7 +39,7 @@ abbrev pub reached : Answer → List ℕ → List ℕ → List ℕ → Reached
 reached a records cache memory = ended a (store records cache memory)
 
 abbrev pub stopped : Store → ℕ → Reached
-stopped b n = ended (answer n 0 markNone) b
+stopped b n = ended (answer n 0 markNoAccess) b
 
 -- a load or a store that is done on a line now held, and its mark
 abbrev pub reachedBy : Performed → List ℕ → ℕ → Reached

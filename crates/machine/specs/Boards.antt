@@ -6,7 +6,7 @@ use mathlib.Core.List.{List}
 use lib.ListN.{length, getD, replicate}
 use Rattle.address.specs.Layout.{processSlots}
 use Rattle.board.specs.Shapes.{fitsShape, recordWords}
-use Rattle.board.specs.Answers.{answer, markNone}
+use Rattle.board.specs.Answers.{answer, markNoAccess}
 use Rattle.board.specs.declared.Shape.{Shape}
 use Rattle.board.specs.declared.Pending.{Pending}
 use Rattle.board.specs.declared.Answer.{Answer}
@@ -60,11 +60,11 @@ outcome a b = record { answer = a; after = b }
 
 -- a refusal: value 0, mark 0, nothing changed
 abbrev pub refused : Board → ℕ → Outcome
-refused b n = outcome (answer n 0 markNone) b
+refused b n = outcome (answer n 0 markNoAccess) b
 
 -- done, by a call that is no access
 abbrev pub done : Board → Outcome
-done b = outcome (answer 0 0 markNone) b
+done b = outcome (answer 0 0 markNoAccess) b
 
 -- the board with other slots, another tag or another store
 abbrev pub withSlots : Board → List ℕ → Board
