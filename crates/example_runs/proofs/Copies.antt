@@ -28,8 +28,8 @@ use Rattle.lines.proofs.Records.{length-put, line-put-same, line-put-other}
 use Rattle.lines.proofs.OneBit.{one-bit, one-bit-lt}
 use Rattle.stores.specs.Stores.{Store, store, writtenBack, filled, noted, inserted, performedAt}
 use Rattle.reach.specs.Reach.{wayByHome, wayBy, wayOf, unreached, mayWrite}
-use Rattle.visits.specs.Visits.{selects, visitedAll}
-use Rattle.visits.specs.declared.Visit.the-variants.{Map}
+use Rattle.ranges.specs.Ranges.{inRange, named}
+use Rattle.visits.specs.Visits.{mapVisit, visitedAll}
 use Rattle.machine.specs.Boards.{Board, board, noTag}
 use Rattle.machine.specs.Refusals.{byTable, tooLarge, alignedTo, isOrdinary, isMapped, isCached, outside}
 use Rattle.machine.specs.Accesses.{performedOn, accessedBy, accessed, userTable, userAccess, supervisorTable, supervisorDone, supervisorAccess}
@@ -152,7 +152,7 @@ untagged slots word r c m = board slots (word ∷ []) r c m noTag
 
 -- what map leaves of the records and the bytes
 abbrev swept : List ℕ → List ℕ → List ℕ → Store
-swept r c m = visitedAll 1 shape (Map 0x200001 0) (store r c m)
+swept r c m = visitedAll 1 shape (mapVisit 0x200001 0) (store r c m)
 
 abbrev cache1 : List ℕ
 cache1 = stored (withLine (zeros 8192) 0 (lineOf memory 0)) 0 4 50
@@ -193,11 +193,11 @@ one-second = line-put-other none 0 directLine 256 (omega arith) ∙ fresh-line 1
 abbrev sweptOne : Store
 sweptOne = swept one cache1 memory
 
-swept-at : (i : ℕ) → i < 512 → lineAt (sweptOne .records) i ≡ fate 1 shape (Map 0x200001 0) i (lineAt one i)
-swept-at i h = swept-line 1 shape (Map 0x200001 0) (store one cache1 memory) i length-one h
+swept-at : (i : ℕ) → i < 512 → lineAt (sweptOne .records) i ≡ fate 1 shape (mapVisit 0x200001 0) i (lineAt one i)
+swept-at i h = swept-line 1 shape (mapVisit 0x200001 0) (store one cache1 memory) i length-one h
 
 swept-first : lineAt (sweptOne .records) 0 ≡ noLine
-unfolding holdsLine selects fate fateOf
+unfolding holdsLine named inRange fate fateOf
 swept-first = swept-at 0 (omega arith) ∙ rw (line-put-same none 0 directLine (omega (arith, length-none)))
 
 swept-second : lineAt (sweptOne .records) 256 ≡ noLine
@@ -214,7 +214,7 @@ abbrev zeroed : List ℕ
 zeroed = zeroedFrame (sweptOne .memory) 0
 
 swept-one : SameCache (store one cache1 memory) sweptOne
-swept-one = swept-cache 1 shape (Map 0x200001 0) (store one cache1 memory)
+swept-one = swept-cache 1 shape (mapVisit 0x200001 0) (store one cache1 memory)
 
 swept-memory-is : length (sweptOne .memory) ≡ 4096
 swept-memory-is = swept-one .memory-length ∙ length-memory

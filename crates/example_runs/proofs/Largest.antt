@@ -22,8 +22,7 @@ use Rattle.lines.proofs.Records.{length-put, line-put-same}
 use Rattle.lines.proofs.OneBit.{power-one}
 use Rattle.stores.specs.Stores.{Store, store, filled, noted, inserted, performedAt}
 use Rattle.reach.specs.Reach.{wayByHome, wayBy, wayOf, unreached, mayWrite}
-use Rattle.visits.specs.Visits.{visitedAll}
-use Rattle.visits.specs.declared.Visit.the-variants.{Map}
+use Rattle.visits.specs.Visits.{mapVisit, visitedAll}
 use Rattle.machine.specs.Boards.{Board, board, noTag}
 use Rattle.machine.specs.Refusals.{byTable, tooLarge, alignedTo, isMapped}
 use Rattle.machine.specs.Accesses.{performedOn, accessedBy, accessed, userTable, userAccess}
@@ -73,7 +72,7 @@ module _ (slots r c m : List ℕ) (x : Long slots r c m) where
   fits = rw (x .slots-are, x .records-are, x .cache-is, x .memory-is, one)
 
   abbrev swept : Store
-  swept = visitedAll 1 shape (Map 0x2003FF 0) (store r c m)
+  swept = visitedAll 1 shape (mapVisit 0x2003FF 0) (store r c m)
 
   does-map : Does shape (untagged slots 0 r c m) (supervisor (map 0x2003FF 0 true)) (answer 0 0 0)
       (untagged slots pageWord (swept .records) (swept .cache) (zeroedFrame (swept .memory) 0))
@@ -139,7 +138,7 @@ abbrev memory1 : List ℕ
 memory1 = zeroedFrame (mappedStore .memory) 0
 
 kept : SameCache (store records0 cache0 memory0) mappedStore
-kept = swept-cache 1 shape (Map 0x2003FF 0) (store records0 cache0 memory0)
+kept = swept-cache 1 shape (mapVisit 0x2003FF 0) (store records0 cache0 memory0)
 
 long1 : Long slots0 (mappedStore .records) (mappedStore .cache) memory1
 long1 = record {
@@ -154,7 +153,7 @@ none0 = fresh-line (recordWords * shape .lines) lastPlace
 
 none1 : lineAt (mappedStore .records) lastPlace ≡ noLine
 unfolding holdsLine fate
-none1 = swept-line 1 shape (Map 0x2003FF 0) (store records0 cache0 memory0) lastPlace (long0 .records-are) (omega arith) ∙ rw none0
+none1 = swept-line 1 shape (mapVisit 0x2003FF 0) (store records0 cache0 memory0) lastPlace (long0 .records-are) (omega arith) ∙ rw none0
 
 -- after the attach
 abbrev slots1 : List ℕ

@@ -24,7 +24,8 @@ use Rattle.lines.specs.Holds.{holdsLine, holdsAt, holderFrom, holderOf}
 use Rattle.stores.specs.Stores.{store, writtenBack, filled, noted, dropped, inserted, performedAt}
 use Rattle.stores.specs.declared.Access.{Access}
 use Rattle.reach.specs.Reach.{wayByHome, wayBy, wayOf, unreached, mayWrite}
-use Rattle.visits.specs.Visits.{selects, treated, visited, sweep, visitedAll}
+use Rattle.ranges.specs.Ranges.{inRange, named}
+use Rattle.visits.specs.Visits.{treated, visited, sweep, visitedAll}
 use Rattle.machine.specs.Boards.{Board, outcome, withStore}
 use Rattle.machine.specs.Refusals.{byTable, tooLarge, alignedTo, isOrdinary, isCached, isMapped, outside}
 use Rattle.machine.specs.Accesses.{performedOn, accessedBy, accessed, userTable, userAccess, supervisorTable, supervisorDone, supervisorAccess}
@@ -169,7 +170,7 @@ unmapped m = untagged slots2 (wordsWith 0) (0 ∷ 0 ∷ 0 ∷ 0 ∷ []) (lineWit
 
 module _ (m : List ℕ) (fits : length m ≡ 16384) where
   does-unmap : Does shape (holding (frameWord 0x200000 true) (changedLine ours) 50 m) (supervisor (unmap 0x200000)) (answer 0 0 0) (unmapped m)
-  unfolding ones onesIn part fitsShape lowestFrom lowestFrame mappedTo lineOf lineAt putLine holdsLine holdsAt writtenBack noted dropped selects treated visited sweep visitedAll byTable isMapped calls.foundFrame calls.unmapped calls.unmap supervise step
+  unfolding ones onesIn part fitsShape lowestFrom lowestFrame mappedTo lineOf lineAt putLine holdsLine holdsAt writtenBack noted dropped named inRange treated visited sweep visitedAll byTable isMapped calls.foundFrame calls.unmapped calls.unmap supervise step
   does-unmap = record { does = rw fits }
 
   does-refuse-unmapped : Does shape (unmapped m) (load 0 3) (answer 8 0 0) (unmapped m)
@@ -205,7 +206,7 @@ readOnly = permittedLine ours false
 module _ (m : List ℕ) (fits : length m ≡ 16384) where
   does-protect : Does shape (holding (frameWord 0x200000 true) (changedLine ours) 50 m) (supervisor (protect 0x200000 false)) (answer 0 0 0)
       (holding (frameWord 0x200000 false) (changedLine readOnly) 50 m)
-  unfolding ones onesIn fitsShape lowestFrom lowestFrame mappedTo lineAt putLine holdsLine holdsAt noted selects treated visited sweep visitedAll byTable isMapped calls.foundFrame calls.protected calls.protect supervise step
+  unfolding ones onesIn fitsShape lowestFrom lowestFrame mappedTo lineAt putLine holdsLine holdsAt noted named inRange treated visited sweep visitedAll byTable isMapped calls.foundFrame calls.protected calls.protect supervise step
   does-protect = record { does = rw fits }
 
   does-refuse-read-only : Does shape (holding (frameWord 0x200000 false) (changedLine readOnly) 50 m) (save 0 1 3 7) (answer 9 0 0)
@@ -320,7 +321,7 @@ does-direct = record { does = rw (length-memory, memory-line) }
 module _ (m : List ℕ) (fits : length m ≡ 16384) where
   does-map : Does shape (direct7 slots0 (0 ∷ 0 ∷ 0 ∷ 0 ∷ []) (direct .name) (wordOf direct) m) (supervisor (map 0x200000 1 true)) (answer 0 0 0)
       (direct7 slots0 words1 0 0 (zeroedFrame m 1))
-  unfolding ones onesIn fitsShape lowestFrom lowestFrame mappedTo lineAt putLine holdsLine holdsAt noted dropped selects treated visited sweep visitedAll byTable isMapped calls.mapPage calls.mapped supervise step
+  unfolding ones onesIn fitsShape lowestFrom lowestFrame mappedTo lineAt putLine holdsLine holdsAt noted dropped named inRange treated visited sweep visitedAll byTable isMapped calls.mapPage calls.mapped supervise step
   does-map = record { does = rw fits }
 
   does-map-wrong : DoesBy mapKeepsLines (direct7 slots0 (0 ∷ 0 ∷ 0 ∷ 0 ∷ []) (direct .name) (wordOf direct) m) (supervisor (map 0x200000 1 true)) (answer 0 0 0)

@@ -17,7 +17,6 @@ use board::LINE_BYTES;
 use board::PAGE_LINES;
 use board::Shape;
 use board::numbered;
-use visits::Visit;
 
 // Writes back every changed line and drops all.
 pub fn flush_all(
@@ -38,7 +37,7 @@ pub fn flush_all(
         cache.len(),
         memory.len(),
     ) {
-        visits::visit_all(s, records, cache, memory, Visit::Flush);
+        visits::visit_names(s, records, cache, memory, visits::of_flush());
         numbered(0)
     } else {
         numbered(1)

@@ -15,8 +15,7 @@ use Rattle.board.specs.declared.Found.the-variants.{At, Nothing}
 use Rattle.line_bytes.specs.Bytes.{zeroedFrame}
 use Rattle.stores.specs.Stores.{Store, store, inserted}
 use Rattle.lines.specs.Holds.{placeOf, holderOf}
-use Rattle.visits.specs.Visits.{visitedAll}
-use Rattle.visits.specs.declared.Visit.the-variants.{Map, Unmap, Protect, Flush}
+use Rattle.visits.specs.Visits.{mapVisit, unmapVisit, protectVisit, flushVisit, visitedAll}
 use Rattle.machine.specs.Boards.{ways, Board, Outcome, refused, done, noTag, tagged, withSlots, withTag, withStore, withPages, Pages, pagesOf}
 use Rattle.machine.specs.Refusals.{Row, row, byTable, row1, isProcess, isSlot, isFrame, isPhysicalLine, isName, isMapped, wordInUse}
 
@@ -57,7 +56,7 @@ zeroedStore frame x = store (x .records) (x .cache) (zeroedFrame (x .memory) fra
 unfoldable pub mapped : Shape → ℕ → ℕ → Bool → Pages → Pages
 mapped s page frame write p = record {
   words = set (p .words) frame (frameWord page write);
-  store = zeroedStore frame (visitedAll ways s (Map page frame) (p .store));
+  store = zeroedStore frame (visitedAll ways s (mapVisit page frame) (p .store));
 }
 
 abbrev pub mapTable : Shape → Board → ℕ → ℕ → List Row
@@ -76,7 +75,7 @@ abbrev pub pageTable : Shape → Board → ℕ → List Row
 pageTable s b page = row1 s b ∷ pageRows s (b .words) page
 
 unfoldable pub unmapped : Shape → ℕ → ℕ → Pages → Pages
-unmapped s page frame p = record { words = set (p .words) frame 0; store = visitedAll ways s (Unmap page) (p .store) }
+unmapped s page frame p = record { words = set (p .words) frame 0; store = visitedAll ways s (unmapVisit page) (p .store) }
 
 unfoldable pub unmap : Shape → Board → ℕ → Outcome
 unmap s b page =
@@ -88,7 +87,7 @@ unmap s b page =
 unfoldable pub protected : Shape → ℕ → ℕ → Bool → Pages → Pages
 protected s page frame write p = record {
   words = set (p .words) frame (frameWord page write);
-  store = visitedAll ways s (Protect page write) (p .store);
+  store = visitedAll ways s (protectVisit page write) (p .store);
 }
 
 unfoldable pub protect : Shape → Board → ℕ → Bool → Outcome
@@ -102,7 +101,7 @@ abbrev pub flushTable : Shape → Board → List Row
 flushTable s b = row1 s b ∷ []
 
 unfoldable pub flushAll : Shape → Board → Outcome
-flushAll s b = byTable (refused b) (flushTable s b) (done (withStore b (visitedAll ways s Flush (b .store))))
+flushAll s b = byTable (refused b) (flushTable s b) (done (withStore b (visitedAll ways s flushVisit (b .store))))
 
 -- ---- tag: remembers a line name
 

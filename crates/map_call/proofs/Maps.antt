@@ -20,8 +20,8 @@ use Rattle.board.proofs.Bools.{and-left, and-right}
 use Rattle.pages.proofs.Frames.{ordinary-below}
 use Rattle.line_bytes.specs.Bytes.{zeroedFrame}
 use Rattle.stores.specs.Stores.{store}
-use Rattle.visits.specs.Visits.{visitedAll}
-use Rattle.visits.specs.declared.Visit.the-variants.{Map}
+use Rattle.visits.specs.Visits.{mapVisit, visitedAll}
+use Rattle.visits.specs.declared.Visit.{Visit}
 use Rattle.machine.specs.Boards.{Board, board, Outcome, outcome, refused, done, pages, pagesOf, withPages}
 use Rattle.machine.specs.Refusals.{row, byTable, lowest, isFrame, isMapped}
 use Rattle.machine.specs.Calls.{mapped, mapPage}
@@ -71,10 +71,10 @@ module _ (s : Shape) (words : List ℕ) (page frame n : ℕ) (e : n ≡ mapNumbe
 -- ---- the change
 
 module _ (s : Shape) (page frame : ℕ) (w r c m r₁ m₁ : List ℕ) where
-  mapped-by : (write : Bool) (m₂ : List ℕ) (word : ℕ) → store r₁ c m₁ ≡ visitedAll 1 s (Map page frame) (store r c m) → m₂ ≡ zeroedFrame m₁ frame
+  mapped-by : (write : Bool) (m₂ : List ℕ) (word : ℕ) (v : Visit) → v ≡ mapVisit page frame → store r₁ c m₁ ≡ visitedAll 1 s v (store r c m) → m₂ ≡ zeroedFrame m₁ frame
       → word ≡ frameWord page write → pages (set w frame word) r₁ c m₂ ≡ mapped s page frame write (pages w r c m)
   unfolding mapped
-  mapped-by write m₂ word e z g = rw (z, g, ← e)
+  mapped-by write m₂ word v k e z g = rw (z, g, ← k, ← e)
 
 -- ---- the returns
 
@@ -111,9 +111,9 @@ module _ (s : Shape) (slots w r c m : List ℕ) (tag : Pending) (t : Bool) (f : 
     pub map-refused : (n ≡ 0 → ⊥) → a ≡ answer n 0 0 → outcome a b ≡ mapPage s b page frame write
     map-refused k q = by-refusal b _ a n k q ∙ map-on
 
-    pub map-done : (r₁ m₁ m₂ : List ℕ) (word : ℕ) → n ≡ 0 → store r₁ c m₁ ≡ visitedAll 1 s (Map page frame) (store r c m) → m₂ ≡ zeroedFrame m₁ frame
+    pub map-done : (v : Visit) (r₁ m₁ m₂ : List ℕ) (word : ℕ) → n ≡ 0 → v ≡ mapVisit page frame → store r₁ c m₁ ≡ visitedAll 1 s v (store r c m) → m₂ ≡ zeroedFrame m₁ frame
         → word ≡ frameWord page write → a ≡ answer 0 0 0 → outcome a (board slots (set w frame word) r₁ c m₂ tag) ≡ mapPage s b page frame write
     unfolding byNumber
-    map-done r₁ m₁ m₂ word k v z g q =
-        pages-done slots w r c m tag a _ (set w frame word) r₁ m₂ (mapped-by s page frame w r c m r₁ m₁ write m₂ word v z g) q
+    map-done v r₁ m₁ m₂ word k u x z g q =
+        pages-done slots w r c m tag a _ (set w frame word) r₁ m₂ (mapped-by s page frame w r c m r₁ m₁ write m₂ word v u x z g) q
         ∙ (ap (byNumber (refused b) (done (withPages b (mapped s page frame write (pagesOf b))))) (sym k) ∙ map-on)

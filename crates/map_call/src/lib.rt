@@ -9,7 +9,6 @@ use board::Answer;
 use board::Found;
 use board::Shape;
 use board::numbered;
-use visits::Visit;
 
 // A frame from U up and below F.
 fn is_frame(s: Shape, frame: usize) -> bool
@@ -60,7 +59,7 @@ pub fn map(
     ) {
         let number = map_number(s, words, page, frame);
         if number == 0 {
-            visits::visit_all(s, records, cache, memory, Visit::Map(page, frame));
+            visits::visit_names(s, records, cache, memory, visits::of_map(page, frame));
             line_bytes::zero_frame(memory, frame);
             words[frame] = pages::frame_word(page, write);
             return numbered(0);

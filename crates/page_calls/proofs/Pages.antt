@@ -16,8 +16,8 @@ use Rattle.board.specs.declared.Found.{Found}
 use Rattle.board.specs.declared.Found.the-variants.{At, Nothing}
 use Rattle.pages.proofs.Frames.{mapped-inside, mapped-ordinary, ordinary-below}
 use Rattle.stores.specs.Stores.{store}
-use Rattle.visits.specs.Visits.{visitedAll}
-use Rattle.visits.specs.declared.Visit.the-variants.{Unmap, Protect}
+use Rattle.visits.specs.Visits.{unmapVisit, protectVisit, visitedAll}
+use Rattle.visits.specs.declared.Visit.{Visit}
 use Rattle.machine.specs.Boards.{Board, board, Outcome, outcome, refused, done, pages, pagesOf, withPages}
 use Rattle.machine.specs.Refusals.{row, byTable, isMapped}
 use Rattle.machine.specs.Calls.{foundFrame, pageRows, unmapped, unmap, protected, protect}
@@ -62,14 +62,14 @@ module _ (s : Shape) (words : List ℕ) (page f : ℕ) (k : Frame) (e : k ≡ pa
 -- ---- the changes
 
 module _ (s : Shape) (page frame : ℕ) (w r c m r₁ m₁ : List ℕ) where
-  unmapped-by : store r₁ c m₁ ≡ visitedAll 1 s (Unmap page) (store r c m) → pages (set w frame 0) r₁ c m₁ ≡ unmapped s page frame (pages w r c m)
+  unmapped-by : (v : Visit) → v ≡ unmapVisit page → store r₁ c m₁ ≡ visitedAll 1 s v (store r c m) → pages (set w frame 0) r₁ c m₁ ≡ unmapped s page frame (pages w r c m)
   unfolding unmapped
-  unmapped-by e = rw (← e)
+  unmapped-by v k e = rw (← k, ← e)
 
-  protected-by : (write : Bool) (word : ℕ) → store r₁ c m₁ ≡ visitedAll 1 s (Protect page write) (store r c m) → word ≡ frameWord page write
+  protected-by : (write : Bool) (word : ℕ) (v : Visit) → v ≡ protectVisit page write → store r₁ c m₁ ≡ visitedAll 1 s v (store r c m) → word ≡ frameWord page write
       → pages (set w frame word) r₁ c m₁ ≡ protected s page frame write (pages w r c m)
   unfolding protected
-  protected-by write word e g = rw (g, ← e)
+  protected-by write word v k e g = rw (g, ← k, ← e)
 
 -- ---- the returns
 
@@ -97,11 +97,11 @@ module _ (s : Shape) (slots w r c m : List ℕ) (tag : Pending) (t : Bool) (f : 
     unfolding byFrame
     unmap-stop n j q = rw q (ap (byFrame (refused b) (λ x. done (withPages b (unmapped s page x (pagesOf b))))) (sym j) ∙ unmap-on)
 
-    pub unmap-done : (x : ℕ) (r₁ m₁ : List ℕ) → k ≡ On x → store r₁ c m₁ ≡ visitedAll 1 s (Unmap page) (store r c m) → a ≡ answer 0 0 0
+    pub unmap-done : (x : ℕ) (v : Visit) (r₁ m₁ : List ℕ) → k ≡ On x → v ≡ unmapVisit page → store r₁ c m₁ ≡ visitedAll 1 s v (store r c m) → a ≡ answer 0 0 0
         → outcome a (board slots (set w x 0) r₁ c m₁ tag) ≡ unmap s b page
     unfolding byFrame
-    unmap-done x r₁ m₁ j v q =
-        pages-done slots w r c m tag a _ (set w x 0) r₁ m₁ (unmapped-by s page x w r c m r₁ m₁ v) q
+    unmap-done x v r₁ m₁ j u e q =
+        pages-done slots w r c m tag a _ (set w x 0) r₁ m₁ (unmapped-by s page x w r c m r₁ m₁ v u e) q
         ∙ (ap (byFrame (refused b) (λ y. done (withPages b (unmapped s page y (pagesOf b))))) (sym j) ∙ unmap-on)
 
     module _ (write : Bool) where
@@ -113,9 +113,9 @@ module _ (s : Shape) (slots w r c m : List ℕ) (tag : Pending) (t : Bool) (f : 
       unfolding byFrame
       protect-stop n j q = rw q (ap (byFrame (refused b) (λ x. done (withPages b (protected s page x write (pagesOf b))))) (sym j) ∙ protect-on)
 
-      pub protect-done : (x word : ℕ) (r₁ m₁ : List ℕ) → k ≡ On x → store r₁ c m₁ ≡ visitedAll 1 s (Protect page write) (store r c m)
+      pub protect-done : (x word : ℕ) (v : Visit) (r₁ m₁ : List ℕ) → k ≡ On x → v ≡ protectVisit page write → store r₁ c m₁ ≡ visitedAll 1 s v (store r c m)
           → word ≡ frameWord page write → a ≡ answer 0 0 0 → outcome a (board slots (set w x word) r₁ c m₁ tag) ≡ protect s b page write
       unfolding byFrame
-      protect-done x word r₁ m₁ j v g q =
-          pages-done slots w r c m tag a _ (set w x word) r₁ m₁ (protected-by s page x w r c m r₁ m₁ write word v g) q
+      protect-done x word v r₁ m₁ j u e g q =
+          pages-done slots w r c m tag a _ (set w x word) r₁ m₁ (protected-by s page x w r c m r₁ m₁ write word v u e g) q
           ∙ (ap (byFrame (refused b) (λ y. done (withPages b (protected s page y write (pagesOf b))))) (sym j) ∙ protect-on)

@@ -7,7 +7,6 @@ use board::Answer;
 use board::Found;
 use board::Shape;
 use board::numbered;
-use visits::Visit;
 
 // What unmap and protect go on with: the page's frame, if no number stops them.
 pub enum Frame {
@@ -51,7 +50,7 @@ pub fn unmap(
         match page_frame(s, words, page) {
             Frame::Stop(n) => numbered(n),
             Frame::On(f) => {
-                visits::visit_all(s, records, cache, memory, Visit::Unmap(page));
+                visits::visit_names(s, records, cache, memory, visits::of_unmap(page));
                 words[f] = 0;
                 numbered(0)
             }
@@ -85,7 +84,7 @@ pub fn protect(
         match page_frame(s, words, page) {
             Frame::Stop(n) => numbered(n),
             Frame::On(f) => {
-                visits::visit_all(s, records, cache, memory, Visit::Protect(page, write));
+                visits::visit_names(s, records, cache, memory, visits::of_protect(page, write));
                 words[f] = pages::frame_word(page, write);
                 numbered(0)
             }

@@ -21,19 +21,30 @@ use Rattle.line_bytes.specs.Bytes.{number, digits, stored, zeroedFrame}
 use Rattle.lines.specs.Records.{lineAt, noLine, permittedLine}
 use Rattle.stores.specs.Stores.{Store, store}
 use Rattle.lines.specs.Holds.{holdsLine, holdsAt}
-use Rattle.visits.specs.Visits.{selects, visitedAll}
+use Rattle.ranges.specs.Ranges.{named, pageNames}
+use Rattle.ranges.specs.declared.Names.the-variants.{One, Two, All}
+use Rattle.ranges.proofs.Ranges.{page-names}
+use Rattle.visits.specs.Visits.{mapVisit, unmapVisit, protectVisit, flushVisit, visitedAll}
 use Rattle.lines.specs.declared.Line.{Line}
 use Rattle.visits.specs.declared.Visit.{Visit}
-use Rattle.visits.specs.declared.Visit.the-variants.{Map, Unmap, Protect, Flush}
 use Rattle.line_bytes.proofs.Bytes.{length-stored}
 use Rattle.machine.specs.Calls.{zeroedStore}
 use Rattle.store_laws.proofs.Sim.{byte, Sim}
 use Rattle.store_laws.proofs.Bytes.{splice-match, splice-apart, number-same, length-digits}
 use Rattle.store_laws.proofs.Zeroed.{length-zeroed, zeroed-line-in, zeroed-line-out}
 use Rattle.store_laws.proofs.Held.{holds-none, holds-permitted, held-line, held-same, held-listed, held-below}
-use Rattle.store_laws.proofs.Sweeps.{fateOf, fate, swept-cache, swept-line, swept-memory-map, swept-memory-protect, Kept, kept-sim, sim-swept-unmap, sim-swept-flush}
+use Rattle.store_laws.proofs.Sweeps.{fateOf, fate, swept-cache, swept-line, swept-memory-drop, swept-memory-permit, Kept, kept-sim, sim-retired}
 use Rattle.page_laws.proofs.Maps as maps
 use Rattle.page_laws.proofs.Maps.{Homed, homed, home-set, home-elsewhere, home-above, mapped-frame, mapped-nothing, mapped-hit, mapped-home, word-names, word-names-not, frame-word-page, frame-word-writes, frame-word-names, ordinary-low}
+
+-- the names of a page are those whose page it is
+one-page : (page name : ℕ) → named (One (pageNames page)) name ≡ eqb (name / pageLines) page
+unfolding named
+one-page page name = page-names page name
+
+two-pages : (page page′ name : ℕ) → named (Two (pageNames page) (pageNames page′)) name ≡ (eqb (name / pageLines) page || eqb (name / pageLines) page′)
+unfolding named
+two-pages page page′ name = rw (page-names page name, page-names page′ name)
 
 -- a choice under two tests of which the second fails
 cond-and : (a b : Bool) (k l : Line) → b ≡ false → cond (a && b) k l ≡ l
@@ -54,21 +65,21 @@ module _ (ways : ℕ) (s : Shape) (words : List ℕ) (x : Store) (m : List ℕ) 
 
   -- ---- flush all
 
-  pub sim-flushed : Sim ways s (homeOf s words) (visitedAll ways s Flush x) m
-  sim-flushed = sim-swept-flush ways s (homeOf s words) m x sim
+  pub sim-flushed : Sim ways s (homeOf s words) (visitedAll ways s flushVisit x) m
+  sim-flushed = sim-retired ways s (homeOf s words) m All x sim
 
   -- ---- unmap
 
   module _ (page f : ℕ) (found : mappedTo s words page ≡ At f) where
     abbrev gone : Store
-    gone = visitedAll ways s (Unmap page) x
+    gone = visitedAll ways s (unmapVisit page) x
 
     -- a line that is still held is of another page
     unmapped-name : (j : ℕ) → holdsAt ways s (gone .records) j ≡ true → lineAt (gone .records) j .name / pageLines ≢ page
-    unfolding fate fateOf selects
+    unfolding fate fateOf
     unmapped-name j h =
-        let r = swept-line ways s (Unmap page) x j (sim .record-count) (swept-below (Unmap page) j h) in
-        go (holdsLine ways s j (line j)) (eqb (line j .name / pageLines) page) refl refl r
+        let r = swept-line ways s (unmapVisit page) x j (sim .record-count) (swept-below (unmapVisit page) j h) in
+        go (holdsLine ways s j (line j)) (eqb (line j .name / pageLines) page) refl refl (rw (one-page page (line j .name)) at r)
       where
         go : (t u : Bool) → holdsLine ways s j (line j) ≡ t → eqb (line j .name / pageLines) page ≡ u → lineAt (gone .records) j ≡ cond (t && u) noLine (line j)
             → lineAt (gone .records) j .name / pageLines ≢ page
@@ -76,9 +87,9 @@ module _ (ways : ℕ) (s : Shape) (words : List ℕ) (x : Store) (m : List ℕ) 
         go true false t u r = rw r (eqb-false _ _ u)
         go false u t v r = clash _ h (held-line ways s (gone .records) j (line j) r ∙ t)
 
-    pub sim-unmapped : Sim ways s (homeOf s (set words f 0)) (visitedAll ways s (Unmap page) x) m
+    pub sim-unmapped : Sim ways s (homeOf s (set words f 0)) (visitedAll ways s (unmapVisit page) x) m
     sim-unmapped =
-        let r = sim-swept-unmap ways s (homeOf s words) m page x sim in
+        let r = sim-retired ways s (homeOf s words) m (One (pageNames page)) x sim in
         let q = mapped-frame s words page f found in
         kept-sim ways s (homeOf s words) (homeOf s (set words f 0)) gone gone m m r
         (record { records-length = refl; cache-same = refl; memory-length = refl }) refl
@@ -95,7 +106,7 @@ module _ (ways : ℕ) (s : Shape) (words : List ℕ) (x : Store) (m : List ℕ) 
 
   module _ (page f : ℕ) (write : Bool) (found : mappedTo s words page ≡ At f) where
     abbrev safe : Store
-    safe = visitedAll ways s (Protect page write) x
+    safe = visitedAll ways s (protectVisit page write) x
 
     abbrev words′ : List ℕ
     words′ = set words f (frameWord page write)
@@ -129,8 +140,8 @@ module _ (ways : ℕ) (s : Shape) (words : List ℕ) (x : Store) (m : List ℕ) 
     relabelled j h false u t v r = clash _ h (held-same ways s (safe .records) j (x .records) r ∙ t)
 
     safe-line : (j : ℕ) → j < s .lines → lineAt (safe .records) j ≡ cond (held j && eqb (line j .name / pageLines) page) (permittedLine (line j) write) (line j)
-    unfolding fate fateOf selects holdsAt
-    safe-line j h = swept-line ways s (Protect page write) x j (sim .record-count) h
+    unfolding fate fateOf holdsAt
+    safe-line j h = rw (← one-page page (line j .name)) (swept-line ways s (protectVisit page write) x j (sim .record-count) h)
 
     -- a line that was held is still held
     safe-held : (j p : ℕ) → held j ≡ true → (t : Bool) → lineAt (safe .records) j ≡ cond t (permittedLine (line j) write) (line j)
@@ -139,11 +150,11 @@ module _ (ways : ℕ) (s : Shape) (words : List ℕ) (x : Store) (m : List ℕ) 
     safe-held j p h true r free q = free j (held-line ways s (safe .records) j (permittedLine (line j) write) r ∙ (holds-permitted ways s j (line j) write ∙ h)) (rw r q)
     safe-held j p h false r free q = free j (held-line ways s (safe .records) j (line j) r ∙ h) (rw r q)
 
-    pub sim-protected : Sim ways s (homeOf s (set words f (frameWord page write))) (visitedAll ways s (Protect page write) x) m
+    pub sim-protected : Sim ways s (homeOf s (set words f (frameWord page write))) (visitedAll ways s (protectVisit page write) x) m
     sim-protected =
-        let e = swept-memory-protect ways s x page write in
-        kept-sim ways s (homeOf s words) (homeOf s words′) x safe m m sim (swept-cache ways s (Protect page write) x) refl
-        (λ j h. relabelled j h (held j) (eqb (line j .name / pageLines) page) refl refl (safe-line j (swept-below (Protect page write) j h)))
+        let e = swept-memory-permit ways s x (One (pageNames page)) write in
+        kept-sim ways s (homeOf s words) (homeOf s words′) x safe m m sim (swept-cache ways s (protectVisit page write) x) refl
+        (λ j h. relabelled j h (held j) (eqb (line j .name / pageLines) page) refl refl (safe-line j (swept-below (protectVisit page write) j h)))
         (λ j k h g. rw e) (λ j k h g. refl)
         (λ p k free b g. rw e (sim .bare p k (λ j h. safe-held j p h (held j && eqb (line j .name / pageLines) page) (safe-line j (held-below sim j h)) free) b g))
 
@@ -152,14 +163,14 @@ module _ (ways : ℕ) (s : Shape) (words : List ℕ) (x : Store) (m : List ℕ) 
   module _ (words-are : length words ≡ s .frames) (frames-max : s .frames ≤ maxFrames) (page frame : ℕ) (write : Bool) (ordinary : ordinaryPage page ≡ true)
       (inside : frame < s .frames) (free : getD words frame 0 ≡ 0) (unmapped : mappedTo s words page ≡ Nothing) where
     abbrev clear : Store
-    clear = visitedAll ways s (Map page frame) x
+    clear = visitedAll ways s (mapVisit page frame) x
 
     abbrev given : List ℕ
     given = set words frame (frameWord page write)
 
     clear-line : (j : ℕ) → j < s .lines → lineAt (clear .records) j ≡ cond (held j && (eqb (line j .name / pageLines) page || eqb (line j .name / pageLines) (directPage frame))) noLine (line j)
-    unfolding fate fateOf selects holdsAt
-    clear-line j h = swept-line ways s (Map page frame) x j (sim .record-count) h
+    unfolding fate fateOf holdsAt
+    clear-line j h = rw (← two-pages page (directPage frame) (line j .name)) (swept-line ways s (mapVisit page frame) x j (sim .record-count) h)
 
     -- a line outside the frame's prefix 1 range is in another frame, and one in another frame is outside the page and the range
     out-frame : (n p : ℕ) (w : Bool) → Homed s words n p w → n / pageLines ≢ directPage frame → p / pageLines ≢ frame
@@ -195,7 +206,7 @@ module _ (ways : ℕ) (s : Shape) (words : List ℕ) (x : Store) (m : List ℕ) 
 
     cleared-at : (j : ℕ) → holdsAt ways s (clear .records) j ≡ true
         → Kept ways s (homeOf s given) x (zeroedStore frame clear) j × (lineAt (clear .records) j .physical / pageLines ≢ frame)
-    cleared-at j h = cleared j h (held j) _ refl refl (clear-line j (swept-below (Map page frame) j h))
+    cleared-at j h = cleared j h (held j) _ refl refl (clear-line j (swept-below (mapVisit page frame) j h))
 
     clear-bare : (p k : ℕ) → ((j : ℕ) → holdsAt ways s (clear .records) j ≡ true → lineAt (clear .records) j .physical ≡ p → ⊥) → p < pageLines * s .frames → k < 16
         → (t : Bool) → eqb (p / pageLines) frame ≡ t → byte (zeroedFrame m frame) p k ≡ byte (zeroedFrame (x .memory) frame) p k
@@ -215,10 +226,10 @@ module _ (ways : ℕ) (s : Shape) (words : List ℕ) (x : Store) (m : List ℕ) 
             none j (held-same ways s (clear .records) j (x .records) r ∙ o) (rw r z)
 
     -- the lines of the page and of the frame's prefix 1 range dropped, and the frame filled with zeros
-    pub sim-cleared : Sim ways s (homeOf s (set words frame (frameWord page write))) (zeroedStore frame (visitedAll ways s (Map page frame) x)) (zeroedFrame m frame)
+    pub sim-cleared : Sim ways s (homeOf s (set words frame (frameWord page write))) (zeroedStore frame (visitedAll ways s (mapVisit page frame) x)) (zeroedFrame m frame)
     sim-cleared =
-        let e = swept-memory-map ways s x page frame in
-        let a = swept-cache ways s (Map page frame) x in
+        let e = swept-memory-drop ways s x (Two (pageNames page) (pageNames (directPage frame))) in
+        let a = swept-cache ways s (mapVisit page frame) x in
         kept-sim ways s (homeOf s words) (homeOf s given) x (zeroedStore frame clear) m (zeroedFrame m frame) sim
         (record { records-length = a .records-length; cache-same = a .cache-same; memory-length = length-zeroed (clear .memory) frame ∙ a .memory-length })
         (length-zeroed m frame) (λ j h. cleared-at j h .0)

@@ -15,11 +15,10 @@ use Rattle.board.specs.declared.Found.the-variants.{At, Nothing}
 use Rattle.board.proofs.Bools.{cond-both}
 use Rattle.stores.specs.Stores.{Store, store, writtenBack, filled, noted, inserted, performedAt, Performed}
 use Rattle.lines.specs.Holds.{holderOf}
-use Rattle.visits.specs.Visits.{visitedAll}
+use Rattle.visits.specs.Visits.{mapVisit, unmapVisit, protectVisit, flushVisit, visitedAll}
 use Rattle.stores.specs.declared.Access.{Access}
 use Rattle.lines.specs.declared.Line.{Line}
 use Rattle.visits.specs.declared.Visit.{Visit}
-use Rattle.visits.specs.declared.Visit.the-variants.{Map, Unmap, Protect, Flush}
 use Rattle.reach.specs.declared.Way.{Way}
 use Rattle.reach.specs.declared.Way.the-variants.{Held, InMemory, Missing}
 use Rattle.line_bytes.proofs.Bytes.{length-stored, length-line}
@@ -146,10 +145,10 @@ module _ (s : Shape) (b : Board) where
   lengths-supervise (attach process slot segment write) = lengths-table _ _ (lengths-slots _ _)
   lengths-supervise (detach process slot) = lengths-table _ _ (lengths-slots _ _)
   lengths-supervise (map page frame write) =
-      lengths-table _ _ (lengths-words frame _ _ (sizes-zeroed s frame (b .store) _ (sizes-visited s (Map page frame) (b .store))))
-  lengths-supervise (unmap page) = lengths-table _ _ (lengths-words _ _ _ (sizes-visited s (Unmap page) (b .store)))
-  lengths-supervise (protect page write) = lengths-table _ _ (lengths-words _ _ _ (sizes-visited s (Protect page write) (b .store)))
-  lengths-supervise flushAll = lengths-table _ _ (lengths-store _ (sizes-visited s Flush (b .store)))
+      lengths-table _ _ (lengths-words frame _ _ (sizes-zeroed s frame (b .store) _ (sizes-visited s (mapVisit page frame) (b .store))))
+  lengths-supervise (unmap page) = lengths-table _ _ (lengths-words _ _ _ (sizes-visited s (unmapVisit page) (b .store)))
+  lengths-supervise (protect page write) = lengths-table _ _ (lengths-words _ _ _ (sizes-visited s (protectVisit page write) (b .store)))
+  lengths-supervise flushAll = lengths-table _ _ (lengths-store _ (sizes-visited s flushVisit (b .store)))
   lengths-supervise (tag name) = lengths-table _ _ (record { slots = refl; words = refl; store = sizes-refl (b .store) })
   lengths-supervise (loadAndMap line) =
       lengths-table _ _ (record { slots = refl; words = refl; store = sizes-loaded s _ line _ (b .store) })

@@ -14,8 +14,7 @@ use Rattle.board.specs.declared.Shape.{Shape}
 use Rattle.board.proofs.Bools.{and-left, and-right}
 use Rattle.board.proofs.Shapes.{Shaped}
 use Rattle.line_bytes.specs.Bytes.{zeroedFrame}
-use Rattle.visits.specs.Visits.{visitedAll}
-use Rattle.visits.specs.declared.Visit.the-variants.{Flush}
+use Rattle.visits.specs.Visits.{flushVisit, visitedAll}
 use Rattle.machine.specs.Boards.{Board, fitsBoard, done, noTag, withTag, withStore, withPages, pagesOf}
 use Rattle.machine.specs.Refusals.{isFrame}
 use Rattle.machine.specs.Calls.{foundFrame, attach, attachTable, detach, detachTable, mapPage, mapTable, mapped, unmap, pageTable, unmapped, protect, protected, flushAll, flushTable, tag, tagTable, loadAndMap, loadAndMapTable, loaded, nameFrame, nameLine, nameWrites, dropTag, dropTagTable}
@@ -81,8 +80,8 @@ module _ (s : Shape) (b : Board) (m : List ℕ) (fits : fitsBoard s b ≡ true) 
   unfolding flushAll plainFlush
   related-flush =
       rw (lengths-same s b m x)
-      (related-table s b m x (flushTable s b) (done (withStore b (visitedAll 1 s Flush (b .store)))) (plainDone (plainOf b m))
-      (λ k. related-done s b m x (answer 0 0 0) (withStore b (visitedAll 1 s Flush (b .store))) m (sim-flushed 1 s (b .words) (b .store) m x)))
+      (related-table s b m x (flushTable s b) (done (withStore b (visitedAll 1 s flushVisit (b .store)))) (plainDone (plainOf b m))
+      (λ k. related-done s b m x (answer 0 0 0) (withStore b (visitedAll 1 s flushVisit (b .store))) m (sim-flushed 1 s (b .words) (b .store) m x)))
 
   pub related-tag : (name : ℕ) → Related s (tag s b name) (plainTagging s (plainOf b m) name)
   unfolding tag plainTagging

@@ -23,7 +23,7 @@ use Rattle.stores.specs.declared.Access.{Access}
 use Rattle.reach.specs.declared.Way.{Way}
 use Rattle.reach.specs.declared.Way.the-variants.{Held, InMemory, Missing}
 use Rattle.reach.proofs.Reach.{way-inside}
-use Rattle.visits.specs.declared.Visit.the-variants.{Map, Unmap, Protect, Flush}
+use Rattle.visits.specs.Visits.{mapVisit, unmapVisit, protectVisit, flushVisit}
 use Rattle.machine.specs.Boards.{ways, Board, Outcome, fitsBoard, refused}
 use Rattle.machine.specs.Refusals.{Row, byTable}
 use Rattle.machine.specs.Accesses.{Reached, performedOn, accessedBy, accessed, wayTo, userTable, userAccess, memoryAccess, supervisorTable, supervisorDone, supervisorAccess}
@@ -94,10 +94,10 @@ module _ (s : Shape) (b : Board) (all : ValidHolds s (b .store)) where
   valid-supervise (access a g) = valid-table _ _ (λ q. valid-supervisor s a (b .words) (size (q 0)) (b .store) all g _)
   valid-supervise (attach process slot segment write) = valid-table _ _ (λ q. all)
   valid-supervise (detach process slot) = valid-table _ _ (λ q. all)
-  valid-supervise (map page frame write) = valid-table _ _ (λ q. valid-visited ways s (Map page frame) (b .store) all)
-  valid-supervise (unmap page) = valid-table _ _ (λ q. valid-visited ways s (Unmap page) (b .store) all)
-  valid-supervise (protect page write) = valid-table _ _ (λ q. valid-visited ways s (Protect page write) (b .store) all)
-  valid-supervise flushAll = valid-table _ _ (λ q. valid-visited ways s Flush (b .store) all)
+  valid-supervise (map page frame write) = valid-table _ _ (λ q. valid-visited ways s (mapVisit page frame) (b .store) all)
+  valid-supervise (unmap page) = valid-table _ _ (λ q. valid-visited ways s (unmapVisit page) (b .store) all)
+  valid-supervise (protect page write) = valid-table _ _ (λ q. valid-visited ways s (protectVisit page write) (b .store) all)
+  valid-supervise flushAll = valid-table _ _ (λ q. valid-visited ways s flushVisit (b .store) all)
   valid-supervise (tag name) = valid-table _ _ (λ q. all)
   valid-supervise (loadAndMap line) = valid-table _ _ (λ q. valid-loaded _ line _ (ltb-true _ _ (not-false _ (q 1))))
   valid-supervise dropTag = valid-table _ _ (λ q. all)

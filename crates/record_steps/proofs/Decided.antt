@@ -15,7 +15,7 @@ use Rattle.board.specs.declared.Shape.{Shape}
 use Rattle.board.proofs.Shapes.{Shaped, shaped}
 use Rattle.pages.specs.Pages.{frameWord, mappedTo}
 use Rattle.lines.specs.declared.Line.{Line}
-use Rattle.visits.specs.declared.Visit.the-variants.{Protect, Flush}
+use Rattle.visits.specs.Visits.{protectVisit, flushVisit}
 use Rattle.machine.specs.Refusals.{Row, row, byTable, isMapped}
 use Rattle.machine.specs.Calls.{foundFrame, pageRows}
 use Rattle.machine.proofs.Tables.{table-map}
@@ -129,10 +129,10 @@ word-fits s slots w lines cache memory page write a w₁ e h =
 module _ (s : Shape) (slots w : List ℕ) (ls : List Line) (c m : List ℕ) where
   module _ (page : ℕ) (write : Bool) where
     abbrev withLines : Worded → LentOutcome
-    withLines x = lentOutcome (x .answer) (lentBoard slots (x .words) (cond (eqb (x .answer .number) 0) (linesVisited s (Protect page write) 0 ls) ls) c m)
+    withLines x = lentOutcome (x .answer) (lentBoard slots (x .words) (cond (eqb (x .answer .number) 0) (linesVisited s (protectVisit page write) 0 ls) ls) c m)
 
     pub protect-met : (a : Answer) (w₁ : List ℕ) → worded a w₁ ≡ wordChanged s (length slots) w (length ls) (length c) (length m) page write
-        → ProtectLent s (lentBoard slots w ls c m) page write a (lentBoard slots w₁ (cond (eqb (a .number) 0) (linesVisited s (Protect page write) 0 ls) ls) c m)
+        → ProtectLent s (lentBoard slots w ls c m) page write a (lentBoard slots w₁ (cond (eqb (a .number) 0) (linesVisited s (protectVisit page write) 0 ls) ls) c m)
     unfolding wordChanged protectLent byTable
     protect-met a w₁ e =
         ap withLines e ∙ go (fitsShape s (length slots) (length w) (recordWords * length ls) (length c) (length m)) (ordinaryPage page) (isMapped (mappedTo s w page))
@@ -140,21 +140,21 @@ module _ (s : Shape) (slots w : List ℕ) (ls : List Line) (c m : List ℕ) wher
         go : (t o p : Bool)
             → withLines (cond (not t) (worded (answer 1 0 0) w) (cond (not o) (worded (answer 2 0 0) w) (cond (not p) (worded (answer 8 0 0) w) (worded (answer 0 0 0) (protectedWords s w page write)))))
             ≡ cond (not t) (lentOutcome (answer 1 0 0) (lentBoard slots w ls c m)) (cond (not o) (lentOutcome (answer 2 0 0) (lentBoard slots w ls c m)) (cond (not p) (lentOutcome (answer 8 0 0) (lentBoard slots w ls c m))
-            (lentOutcome (answer 0 0 0) (lentBoard slots (protectedWords s w page write) (linesVisited s (Protect page write) 0 ls) c m))))
+            (lentOutcome (answer 0 0 0) (lentBoard slots (protectedWords s w page write) (linesVisited s (protectVisit page write) 0 ls) c m))))
         go false o p = refl
         go true false p = refl
         go true true false = refl
         go true true true = refl
 
   pub flush-met : (a : Answer) → a ≡ flushAnswer s (length slots) (length w) (length ls) (length c) (length m)
-      → FlushLent s (lentBoard slots w ls c m) a (lentBoard slots w (cond (eqb (a .number) 0) (linesVisited s Flush 0 ls) ls) c (cond (eqb (a .number) 0) (flushedMemory s 0 ls c m) m))
+      → FlushLent s (lentBoard slots w ls c m) a (lentBoard slots w (cond (eqb (a .number) 0) (linesVisited s flushVisit 0 ls) ls) c (cond (eqb (a .number) 0) (flushedMemory s 0 ls c m) m))
   unfolding flushLent byTable
   flush-met a e = ap walked e ∙ go (fitsShape s (length slots) (length w) (recordWords * length ls) (length c) (length m))
     where
       walked : Answer → LentOutcome
-      walked x = lentOutcome x (lentBoard slots w (cond (eqb (x .number) 0) (linesVisited s Flush 0 ls) ls) c (cond (eqb (x .number) 0) (flushedMemory s 0 ls c m) m))
+      walked x = lentOutcome x (lentBoard slots w (cond (eqb (x .number) 0) (linesVisited s flushVisit 0 ls) ls) c (cond (eqb (x .number) 0) (flushedMemory s 0 ls c m) m))
 
       go : (t : Bool) → walked (answer (cond (not t) 1 0) 0 0)
-          ≡ cond (not t) (lentOutcome (answer 1 0 0) (lentBoard slots w ls c m)) (lentOutcome (answer 0 0 0) (lentBoard slots w (linesVisited s Flush 0 ls) c (flushedMemory s 0 ls c m)))
+          ≡ cond (not t) (lentOutcome (answer 1 0 0) (lentBoard slots w ls c m)) (lentOutcome (answer 0 0 0) (lentBoard slots w (linesVisited s flushVisit 0 ls) c (flushedMemory s 0 ls c m)))
       go true = refl
       go false = refl

@@ -12,10 +12,12 @@ use Rattle.line_bytes.specs.Bytes.{lineOf, withLine}
 use Rattle.lines.specs.Records.{lineAt, putLine, noLine, permittedLine}
 use Rattle.stores.specs.Stores.{Store, store, writtenBack, noted, dropped}
 use Rattle.lines.specs.Holds.{holdsLine, holdsAt}
-use Rattle.visits.specs.Visits.{selects, treated, visited, sweep, visitedAll}
+use Rattle.ranges.specs.Ranges.{named}
+use Rattle.visits.specs.Visits.{protectVisit, flushVisit, selects, treated, visited, sweep, visitedAll}
 use Rattle.lines.specs.declared.Line.{Line}
+use Rattle.visits.specs.declared.Deed.{Deed}
+use Rattle.visits.specs.declared.Deed.the-variants.{Drop, Retire, Permit}
 use Rattle.visits.specs.declared.Visit.{Visit}
-use Rattle.visits.specs.declared.Visit.the-variants.{Map, Unmap, Protect, Flush}
 use Rattle.lines.proofs.Records.{length-put, line-put-same, line-put-other}
 use Rattle.board.proofs.Shapes.{shaped}
 use Rattle.machine.specs.Boards.{Board, fitsBoard, Outcome, refused}
@@ -44,19 +46,17 @@ module _ (s : Shape) where
       go true m = refl
       go false m = refl
 
-  treated-records : (v : Visit) (i : ℕ) (x : Store) → treated 1 s v i x .records ≡ putLine (x .records) i (treatedLine v (lineAt (x .records) i))
+  treated-records : (d : Deed) (i : ℕ) (x : Store) → treated 1 s d i x .records ≡ putLine (x .records) i (treatedLine d (lineAt (x .records) i))
   unfolding treated dropped noted treatedLine
-  treated-records (Map page frame) i x = refl
-  treated-records (Unmap page) i x = ap (λ (r : List ℕ). putLine r i noLine) (written-records i x)
-  treated-records (Protect page write) i x = refl
-  treated-records Flush i x = ap (λ (r : List ℕ). putLine r i noLine) (written-records i x)
+  treated-records Drop i x = refl
+  treated-records Retire i x = ap (λ (r : List ℕ). putLine r i noLine) (written-records i x)
+  treated-records (Permit write) i x = refl
 
-  treated-cache : (v : Visit) (i : ℕ) (x : Store) → treated 1 s v i x .cache ≡ x .cache
+  treated-cache : (d : Deed) (i : ℕ) (x : Store) → treated 1 s d i x .cache ≡ x .cache
   unfolding treated dropped noted
-  treated-cache (Map page frame) i x = refl
-  treated-cache (Unmap page) i x = written-cache i x
-  treated-cache (Protect page write) i x = refl
-  treated-cache Flush i x = written-cache i x
+  treated-cache Drop i x = refl
+  treated-cache Retire i x = written-cache i x
+  treated-cache (Permit write) i x = refl
 
   module _ (v : Visit) (i : ℕ) (x : Store) where
     abbrev test : Bool
@@ -66,32 +66,32 @@ module _ (s : Shape) where
     unfolding visited lineVisited holdsAt
     visited-here b = go test
       where
-        go : (t : Bool) → lineAt (cond t (treated 1 s v i x) x .records) i ≡ cond t (treatedLine v (lineAt (x .records) i)) (lineAt (x .records) i)
-        go true = ap (λ (r : List ℕ). lineAt r i) (treated-records v i x) ∙ line-put-same (x .records) i (treatedLine v (lineAt (x .records) i)) b
+        go : (t : Bool) → lineAt (cond t (treated 1 s (v .deed) i x) x .records) i ≡ cond t (treatedLine (v .deed) (lineAt (x .records) i)) (lineAt (x .records) i)
+        go true = ap (λ (r : List ℕ). lineAt r i) (treated-records (v .deed) i x) ∙ line-put-same (x .records) i (treatedLine (v .deed) (lineAt (x .records) i)) b
         go false = refl
 
     visited-other : (j : ℕ) → (i ≡ j → ⊥) → lineAt (visited 1 s v i x .records) j ≡ lineAt (x .records) j
     unfolding visited holdsAt
     visited-other j n = go test
       where
-        go : (t : Bool) → lineAt (cond t (treated 1 s v i x) x .records) j ≡ lineAt (x .records) j
-        go true = ap (λ (r : List ℕ). lineAt r j) (treated-records v i x) ∙ line-put-other (x .records) i (treatedLine v (lineAt (x .records) i)) j n
+        go : (t : Bool) → lineAt (cond t (treated 1 s (v .deed) i x) x .records) j ≡ lineAt (x .records) j
+        go true = ap (λ (r : List ℕ). lineAt r j) (treated-records (v .deed) i x) ∙ line-put-other (x .records) i (treatedLine (v .deed) (lineAt (x .records) i)) j n
         go false = refl
 
     visited-length : length (visited 1 s v i x .records) ≡ length (x .records)
     unfolding visited holdsAt
     visited-length = go test
       where
-        go : (t : Bool) → length (cond t (treated 1 s v i x) x .records) ≡ length (x .records)
-        go true = ap length (treated-records v i x) ∙ length-put (x .records) i (treatedLine v (lineAt (x .records) i))
+        go : (t : Bool) → length (cond t (treated 1 s (v .deed) i x) x .records) ≡ length (x .records)
+        go true = ap length (treated-records (v .deed) i x) ∙ length-put (x .records) i (treatedLine (v .deed) (lineAt (x .records) i))
         go false = refl
 
     visited-cache : visited 1 s v i x .cache ≡ x .cache
     unfolding visited holdsAt
     visited-cache = go test
       where
-        go : (t : Bool) → cond t (treated 1 s v i x) x .cache ≡ x .cache
-        go true = treated-cache v i x
+        go : (t : Bool) → cond t (treated 1 s (v .deed) i x) x .cache ≡ x .cache
+        go true = treated-cache (v .deed) i x
         go false = refl
 
     -- the lines past a record are as they were
@@ -102,8 +102,8 @@ module _ (s : Shape) where
         ap (λ (l : Line). l ∷ linesFrom (visited 1 s v i x .records) (suc j) n) (visited-other j (λ e. omega (arith, e)))
         ∙ ap (λ (ls : List Line). lineAt (x .records) j ∷ ls) (visited-past (suc j) n (omega arith))
 
-  flush-step : (i : ℕ) (x : Store) → visited 1 s Flush i x .memory ≡ lineFlushed s i (lineAt (x .records) i) (x .cache) (x .memory)
-  unfolding visited treated dropped noted writtenBack lineFlushed selects holdsAt
+  flush-step : (i : ℕ) (x : Store) → visited 1 s flushVisit i x .memory ≡ lineFlushed s i (lineAt (x .records) i) (x .cache) (x .memory)
+  unfolding visited treated dropped noted writtenBack lineFlushed named holdsAt
   flush-step i x = go (holdsLine 1 s i (lineAt (x .records) i)) (lineAt (x .records) i .changed) (withLine (x .memory) (lineAt (x .records) i .physical) (lineOf (x .cache) i))
     where
       go : (t c : Bool) (m : List ℕ) → cond (t && true) (noted i noLine (cond (t && c) (store (x .records) (x .cache) m) x)) x .memory ≡ cond (t && c) m (x .memory)
@@ -111,9 +111,9 @@ module _ (s : Shape) where
       go true false m = refl
       go false c m = refl
 
-  protect-step : (page : ℕ) (write : Bool) (i : ℕ) (x : Store) → visited 1 s (Protect page write) i x .memory ≡ x .memory
+  protect-step : (page : ℕ) (write : Bool) (i : ℕ) (x : Store) → visited 1 s (protectVisit page write) i x .memory ≡ x .memory
   unfolding visited treated noted holdsAt
-  protect-step page write i x = go (holdsLine 1 s i (lineAt (x .records) i) && selects (Protect page write) (lineAt (x .records) i))
+  protect-step page write i x = go (holdsLine 1 s i (lineAt (x .records) i) && selects (protectVisit page write) (lineAt (x .records) i))
     where
       go : (t : Bool) → cond t (noted i (permittedLine (lineAt (x .records) i) write) x) x .memory ≡ x .memory
       go true = refl
@@ -138,19 +138,19 @@ module _ (s : Shape) where
         (sweep-lines n (suc i) (visited 1 s v i x) (omega (arith, h, visited-length v i x))
         ∙ ap (linesVisited s v (suc i)) (visited-past v i x (suc i) n (omega arith)))
 
-  sweep-flush : (n i : ℕ) (x : Store) → sweep (visited 1 s Flush) n i x .memory ≡ flushedMemory s i (linesFrom (x .records) i n) (x .cache) (x .memory)
+  sweep-flush : (n i : ℕ) (x : Store) → sweep (visited 1 s flushVisit) n i x .memory ≡ flushedMemory s i (linesFrom (x .records) i n) (x .cache) (x .memory)
   unfolding sweep linesFrom flushedMemory
   sweep-flush zero i x = refl
   sweep-flush (suc n) i x =
-      sweep-flush n (suc i) (visited 1 s Flush i x)
-      ∙ ap (λ (ls : List Line). flushedMemory s (suc i) ls (visited 1 s Flush i x .cache) (visited 1 s Flush i x .memory)) (visited-past Flush i x (suc i) n (omega arith))
-      ∙ ap (λ (c : List ℕ). flushedMemory s (suc i) (linesFrom (x .records) (suc i) n) c (visited 1 s Flush i x .memory)) (visited-cache Flush i x)
+      sweep-flush n (suc i) (visited 1 s flushVisit i x)
+      ∙ ap (λ (ls : List Line). flushedMemory s (suc i) ls (visited 1 s flushVisit i x .cache) (visited 1 s flushVisit i x .memory)) (visited-past flushVisit i x (suc i) n (omega arith))
+      ∙ ap (λ (c : List ℕ). flushedMemory s (suc i) (linesFrom (x .records) (suc i) n) c (visited 1 s flushVisit i x .memory)) (visited-cache flushVisit i x)
       ∙ ap (flushedMemory s (suc i) (linesFrom (x .records) (suc i) n) (x .cache)) (flush-step i x)
 
-  sweep-protect : (page : ℕ) (write : Bool) (n i : ℕ) (x : Store) → sweep (visited 1 s (Protect page write)) n i x .memory ≡ x .memory
+  sweep-protect : (page : ℕ) (write : Bool) (n i : ℕ) (x : Store) → sweep (visited 1 s (protectVisit page write)) n i x .memory ≡ x .memory
   unfolding sweep
   sweep-protect page write zero i x = refl
-  sweep-protect page write (suc n) i x = sweep-protect page write n (suc i) (visited 1 s (Protect page write) i x) ∙ protect-step page write i x
+  sweep-protect page write (suc n) i x = sweep-protect page write n (suc i) (visited 1 s (protectVisit page write) i x) ∙ protect-step page write i x
 
   sweep-cache : (v : Visit) (n i : ℕ) (x : Store) → sweep (visited 1 s v) n i x .cache ≡ x .cache
   unfolding sweep
@@ -188,7 +188,7 @@ module _ (s : Shape) (b : Board) (n : ℕ) (h : length (b .store .records) ≡ r
     unfolding visitedAll
     visited-lines v = rw (lines-are f) (sym (sweep-lines s v (s .lines) 0 (b .store) (omega (arith, h, lines-are f))))
 
-    flushed-memory : flushedMemory s 0 (linesAt (b .store .records) n) (b .store .cache) (b .store .memory) ≡ visitedAll 1 s Flush (b .store) .memory
+    flushed-memory : flushedMemory s 0 (linesAt (b .store .records) n) (b .store .cache) (b .store .memory) ≡ visitedAll 1 s flushVisit (b .store) .memory
     unfolding visitedAll
     flushed-memory = rw (lines-are f) (sym (sweep-flush s (s .lines) 0 (b .store)))
 
@@ -196,17 +196,17 @@ module _ (s : Shape) (b : Board) (n : ℕ) (h : length (b .store .records) ≡ r
     unfolding visitedAll
     kept-cache v = sweep-cache s v (s .lines) 0 (b .store)
 
-    kept-memory : (page : ℕ) (write : Bool) → visitedAll 1 s (Protect page write) (b .store) .memory ≡ b .store .memory
+    kept-memory : (page : ℕ) (write : Bool) → visitedAll 1 s (protectVisit page write) (b .store) .memory ≡ b .store .memory
     unfolding visitedAll
     kept-memory page write = sweep-protect s page write (s .lines) 0 (b .store)
 
   protect-link : (page : ℕ) (write : Bool) → protectLent s (lentOf n b) page write ≡ readLent n (protect s b page write)
   unfolding protectLent protect protected
-  protect-link page write = by-rows (pageRows s (b .words) page) _ _ (λ f. rw (visited-lines f (Protect page write), kept-cache f (Protect page write), kept-memory f page write))
+  protect-link page write = by-rows (pageRows s (b .words) page) _ _ (λ f. rw (visited-lines f (protectVisit page write), kept-cache f (protectVisit page write), kept-memory f page write))
 
   flush-link : flushLent s (lentOf n b) ≡ readLent n (flushAll s b)
   unfolding flushLent flushAll
-  flush-link = by-rows [] _ _ (λ f. rw (visited-lines f Flush, flushed-memory f, kept-cache f Flush))
+  flush-link = by-rows [] _ _ (λ f. rw (visited-lines f flushVisit, flushed-memory f, kept-cache f flushVisit))
 
 pub link : Link
 link = record {

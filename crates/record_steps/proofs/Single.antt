@@ -9,27 +9,29 @@ use Rattle.board.specs.declared.Shape.{Shape}
 use Rattle.line_bytes.specs.Bytes.{lineOf, withLine}
 use Rattle.lines.specs.Records.{noLine, permittedLine}
 use Rattle.lines.specs.Holds.{holdsLine}
-use Rattle.visits.specs.Visits.{selects}
+use Rattle.ranges.specs.Ranges.{named, pageNames}
+use Rattle.ranges.specs.declared.Names.the-variants.{One}
+use Rattle.ranges.proofs.Ranges.{page-names}
+use Rattle.visits.specs.Visits.{protectVisit, flushVisit}
 use Rattle.lines.specs.declared.Line.{Line}
-use Rattle.visits.specs.declared.Visit.the-variants.{Protect, Flush}
 use Rattle.line_bytes.proofs.Bytes.{length-line}
 use Rattle.record_steps.specs.Lent.{treatedLine, lineVisited, lineFlushed}
 
 module _ (s : Shape) (i : ℕ) (l : Line) (t : Bool) (e : t ≡ holdsLine 1 s i l) where
-  pub permitted-now : (page : ℕ) (write : Bool) → (t && eqb (l .name / 256) page) ≡ true → permittedLine l write ≡ lineVisited s (Protect page write) i l
-  unfolding lineVisited treatedLine selects
-  permitted-now page write h = rw (← e, h)
+  pub permitted-now : (page : ℕ) (write : Bool) → (t && eqb (l .name / 256) page) ≡ true → permittedLine l write ≡ lineVisited s (protectVisit page write) i l
+  unfolding lineVisited treatedLine named
+  permitted-now page write h = rw (page-names page (l .name), ← e, h)
 
-  pub permitted-not : (page : ℕ) (write : Bool) → (t && eqb (l .name / 256) page) ≡ false → l ≡ lineVisited s (Protect page write) i l
-  unfolding lineVisited treatedLine selects
-  permitted-not page write h = rw (← e, h)
+  pub permitted-not : (page : ℕ) (write : Bool) → (t && eqb (l .name / 256) page) ≡ false → l ≡ lineVisited s (protectVisit page write) i l
+  unfolding lineVisited treatedLine named
+  permitted-not page write h = rw (page-names page (l .name), ← e, h)
 
-  pub flushed-now : t ≡ true → noLine ≡ lineVisited s Flush i l
-  unfolding lineVisited treatedLine selects
+  pub flushed-now : t ≡ true → noLine ≡ lineVisited s flushVisit i l
+  unfolding lineVisited treatedLine named
   flushed-now h = rw (← e, h)
 
-  pub flushed-not : t ≡ false → l ≡ lineVisited s Flush i l
-  unfolding lineVisited treatedLine selects
+  pub flushed-not : t ≡ false → l ≡ lineVisited s flushVisit i l
+  unfolding lineVisited treatedLine named
   flushed-not h = rw (← e, h)
 
   module _ (cache memory : List ℕ) where

@@ -12,25 +12,25 @@ use Rattle.pages.specs.Pages.{frameWord, mappedTo}
 use Rattle.line_bytes.specs.Bytes.{lineOf, withLine}
 use Rattle.lines.specs.Records.{noLine, permittedLine}
 use Rattle.lines.specs.Holds.{holdsLine}
-use Rattle.visits.specs.Visits.{selects}
+use Rattle.visits.specs.Visits.{protectVisit, flushVisit, selects}
 use Rattle.lines.specs.declared.Line.{Line}
+use Rattle.visits.specs.declared.Deed.{Deed}
+use Rattle.visits.specs.declared.Deed.the-variants.{Drop, Retire, Permit}
 use Rattle.visits.specs.declared.Visit.{Visit}
-use Rattle.visits.specs.declared.Visit.the-variants.{Map, Unmap, Protect, Flush}
 use Rattle.machine.specs.Refusals.{Row, row, byTable}
 use Rattle.machine.specs.Calls.{foundFrame, pageRows}
 
 -- ---- what a visit makes of the lines
 
--- a line that the visit is for: protect gives it the permission, the others drop it
-unfoldable pub treatedLine : Visit → Line → Line
-treatedLine (Map page frame) l = noLine
-treatedLine (Unmap page) l = noLine
-treatedLine (Protect page write) l = permittedLine l write
-treatedLine Flush l = noLine
+-- a line that the visit is for: dropped, or given the permission
+unfoldable pub treatedLine : Deed → Line → Line
+treatedLine Drop l = noLine
+treatedLine Retire l = noLine
+treatedLine (Permit write) l = permittedLine l write
 
 -- line i: only a held line changes
 unfoldable pub lineVisited : Shape → Visit → ℕ → Line → Line
-lineVisited s v i l = cond (holdsLine 1 s i l && selects v l) (treatedLine v l) l
+lineVisited s v i l = cond (holdsLine 1 s i l && selects v l) (treatedLine (v .deed) l) l
 
 -- every line, the first of the list being line i
 unfoldable pub linesVisited : Shape → Visit → ℕ → List Line → List Line
@@ -94,11 +94,11 @@ protectedWords s words page write = set words (foundFrame (mappedTo s words page
 unfoldable pub protectLent : Shape → LentBoard → ℕ → Bool → LentOutcome
 protectLent s b page write =
     byTable (lentRefused b) (lentPageTable s (length (b .slots)) (b .words) (length (b .lines)) (length (b .cache)) (length (b .memory)) page)
-    (lentDone (lentBoard (b .slots) (protectedWords s (b .words) page write) (linesVisited s (Protect page write) 0 (b .lines)) (b .cache) (b .memory)))
+    (lentDone (lentBoard (b .slots) (protectedWords s (b .words) page write) (linesVisited s (protectVisit page write) 0 (b .lines)) (b .cache) (b .memory)))
 
 -- ---- flush all: writes back every changed line, by rising place, and drops all
 
 unfoldable pub flushLent : Shape → LentBoard → LentOutcome
 flushLent s b =
     byTable (lentRefused b) (lentFlushTable s (length (b .slots)) (length (b .words)) (length (b .lines)) (length (b .cache)) (length (b .memory)))
-    (lentDone (lentBoard (b .slots) (b .words) (linesVisited s Flush 0 (b .lines)) (b .cache) (flushedMemory s 0 (b .lines) (b .cache) (b .memory))))
+    (lentDone (lentBoard (b .slots) (b .words) (linesVisited s flushVisit 0 (b .lines)) (b .cache) (flushedMemory s 0 (b .lines) (b .cache) (b .memory))))

@@ -5,7 +5,7 @@ ghost use lib.Count.{ones};
 ghost use lib.Dec.{eqb};
 ghost use lib.ListN.{length};
 ghost use Rattle.board.specs.Shapes.{maxFrames, recordWords};
-ghost use Rattle.visits.specs.declared.Visit.the-variants.{Protect, Flush};
+ghost use Rattle.visits.specs.Visits.{protectVisit, flushVisit};
 ghost use Rattle.record_steps.specs.Lent.{lineVisited, lineFlushed};
 ghost use Rattle.record_steps.specs.Checks.{Placed, worded, wordChanged, flushAnswer, turnsWhen};
 use address::PAGE_NAMES;
@@ -74,7 +74,7 @@ pub fn turns(a: Answer, lines: usize) -> usize
 // What protect makes of line `i`.
 pub fn protect_line(s: Shape, i: usize, l: Line, page: u64, write: bool) -> Line
     requires { ⌜ (ones (s .lines) ≡ 1) × (s .frames ≤ maxFrames) ⌝ }
-    ensures { λ r. ⌜ r ≡ lineVisited s (Protect page write) i l ⌝ }
+    ensures { λ r. ⌜ r ≡ lineVisited s (protectVisit page write) i l ⌝ }
 {
     let h = lines::holds(s, i, l);
     if h & (l.name / PAGE_NAMES == page) {
@@ -92,7 +92,7 @@ pub fn protect_line(s: Shape, i: usize, l: Line, page: u64, write: bool) -> Line
 // What flush all makes of line `i`, and of memory.
 pub fn flush_line(s: Shape, i: usize, l: Line, cache: &[u8], memory: &mut [u8]) -> Line
     requires { ⌜ Placed s i (length (now cache)) (length (now memory)) ⌝ }
-    ensures { λ r. ⌜ (r ≡ lineVisited s Flush i l) × (now (memory .exit) ≡ lineFlushed s i l (now (cache .entry)) (now (memory .entry))) ⌝ }
+    ensures { λ r. ⌜ (r ≡ lineVisited s flushVisit i l) × (now (memory .exit) ≡ lineFlushed s i l (now (cache .entry)) (now (memory .entry))) ⌝ }
 {
     if lines::holds(s, i, l) {
         if l.changed {

@@ -16,10 +16,13 @@ use Rattle.board.specs.declared.Home.the-variants.{Line as HomeLine}
 use Rattle.lines.specs.Records.{lineAt, putLine, noLine, permittedLine}
 use Rattle.stores.specs.Stores.{Store, writtenBack, noted, dropped}
 use Rattle.lines.specs.Holds.{holdsLine, holdsAt}
-use Rattle.visits.specs.Visits.{selects, treated, visited, sweep, visitedAll}
+use Rattle.ranges.specs.Ranges.{named}
+use Rattle.ranges.specs.declared.Names.{Names}
+use Rattle.visits.specs.Visits.{visit, selects, treated, visited, sweep, visitedAll}
 use Rattle.lines.specs.declared.Line.{Line}
+use Rattle.visits.specs.declared.Deed.{Deed}
+use Rattle.visits.specs.declared.Deed.the-variants.{Drop, Retire, Permit}
 use Rattle.visits.specs.declared.Visit.{Visit}
-use Rattle.visits.specs.declared.Visit.the-variants.{Map, Unmap, Protect, Flush}
 use Rattle.lines.proofs.Records.{length-put, line-put-same, line-put-other}
 use Rattle.store_laws.proofs.Sim.{byte, Sim}
 use Rattle.store_laws.proofs.Steps.{written-cache, length-written, evict-records, sim-evict}
@@ -27,15 +30,14 @@ use Rattle.store_laws.proofs.Steps.{written-cache, length-written, evic
 -- ---- what a visit makes of a record
 
 -- a line that a visit is for
-unfoldable pub fateOf : Visit → Line → Line
-fateOf (Map page frame) l = noLine
-fateOf (Unmap page) l = noLine
-fateOf (Protect page write) l = permittedLine l write
-fateOf Flush l = noLine
+unfoldable pub fateOf : Deed → Line → Line
+fateOf Drop l = noLine
+fateOf Retire l = noLine
+fateOf (Permit write) l = permittedLine l write
 
 -- record j, which was l
 unfoldable pub fate : ℕ → Shape → Visit → ℕ → Line → Line
-fate ways s v j l = cond (holdsLine ways s j l && selects v l) (fateOf v l) l
+fate ways s v j l = cond (holdsLine ways s j l && selects v l) (fateOf (v .deed) l) l
 
 -- y is x with l as record i, the same cache bytes and as much memory
 record Step (i : ℕ) (l : Line) (x y : Store) : Type 0 where
@@ -54,39 +56,38 @@ module _ (ways : ℕ) (s : Shape) where
   unfolding dropped noted
   written-retired i x = record { records-are = evict-records ways s i x; cache-same = written-cache ways s i x; memory-length = length-written ways s i x }
 
-  treated-step : (v : Visit) (i : ℕ) (x : Store) → Step i (fateOf v (lineAt (x .records) i)) x (treated ways s v i x)
+  treated-step : (d : Deed) (i : ℕ) (x : Store) → Step i (fateOf d (lineAt (x .records) i)) x (treated ways s d i x)
   unfolding treated dropped noted fateOf
-  treated-step (Map page frame) i x = record { records-are = refl; cache-same = refl; memory-length = refl }
-  treated-step (Unmap page) i x = written-retired i x
-  treated-step (Protect page write) i x = record { records-are = refl; cache-same = refl; memory-length = refl }
-  treated-step Flush i x = written-retired i x
+  treated-step Drop i x = record { records-are = refl; cache-same = refl; memory-length = refl }
+  treated-step Retire i x = written-retired i x
+  treated-step (Permit write) i x = record { records-are = refl; cache-same = refl; memory-length = refl }
 
   module _ (v : Visit) where
     visited-here : (i : ℕ) (x : Store) → 2 * i + 2 ≤ length (x .records) → lineAt (visited ways s v i x .records) i ≡ fate ways s v i (lineAt (x .records) i)
     unfolding visited fate holdsAt
     visited-here i x b = go (holdsLine ways s i (lineAt (x .records) i) && selects v (lineAt (x .records) i))
       where
-        go : (t : Bool) → lineAt (cond t (treated ways s v i x) x .records) i ≡ cond t (fateOf v (lineAt (x .records) i)) (lineAt (x .records) i)
-        go true = rw (treated-step v i x .records-are) (line-put-same (x .records) i (fateOf v (lineAt (x .records) i)) b)
+        go : (t : Bool) → lineAt (cond t (treated ways s (v .deed) i x) x .records) i ≡ cond t (fateOf (v .deed) (lineAt (x .records) i)) (lineAt (x .records) i)
+        go true = rw (treated-step (v .deed) i x .records-are) (line-put-same (x .records) i (fateOf (v .deed) (lineAt (x .records) i)) b)
         go false = refl
 
     visited-other : (i j : ℕ) (x : Store) → i ≢ j → lineAt (visited ways s v i x .records) j ≡ lineAt (x .records) j
     unfolding visited
     visited-other i j x n = go (holdsAt ways s (x .records) i && selects v (lineAt (x .records) i))
       where
-        go : (t : Bool) → lineAt (cond t (treated ways s v i x) x .records) j ≡ lineAt (x .records) j
-        go true = rw (treated-step v i x .records-are) (line-put-other (x .records) i (fateOf v (lineAt (x .records) i)) j n)
+        go : (t : Bool) → lineAt (cond t (treated ways s (v .deed) i x) x .records) j ≡ lineAt (x .records) j
+        go true = rw (treated-step (v .deed) i x .records-are) (line-put-other (x .records) i (fateOf (v .deed) (lineAt (x .records) i)) j n)
         go false = refl
 
     visited-cache : (i : ℕ) (x : Store) → SameCache x (visited ways s v i x)
     unfolding visited
     visited-cache i x = go (holdsAt ways s (x .records) i && selects v (lineAt (x .records) i))
       where
-        go : (t : Bool) → SameCache x (cond t (treated ways s v i x) x)
+        go : (t : Bool) → SameCache x (cond t (treated ways s (v .deed) i x) x)
         go true =
-            let r = treated-step v i x in
+            let r = treated-step (v .deed) i x in
             record {
-              records-length = rw (r .records-are) (length-put (x .records) i (fateOf v (lineAt (x .records) i)));
+              records-length = rw (r .records-are) (length-put (x .records) i (fateOf (v .deed) (lineAt (x .records) i)));
               cache-same = r .cache-same;
               memory-length = r .memory-length;
             }
@@ -143,25 +144,25 @@ module _ (ways : ℕ) (s : Shape) (v : Visit) where
     swept-line j z h = sweep-line (s .lines) 0 j x (omega arith) (omega arith) (omega arith)
 
     -- a visit that never writes back
-    swept-memory : ((i : ℕ) (y : Store) → treated ways s v i y .memory ≡ y .memory) → visitedAll ways s v x .memory ≡ x .memory
+    swept-memory : ((i : ℕ) (y : Store) → treated ways s (v .deed) i y .memory ≡ y .memory) → visitedAll ways s v x .memory ≡ x .memory
     unfolding visitedAll visited
     swept-memory keeps =
         sweep-keeps (visited ways s v) (λ (y : Store). y .memory ≡ x .memory)
         (λ i y a. one i y (holdsAt ways s (y .records) i && selects v (lineAt (y .records) i)) ∙ a)
         (s .lines) 0 x refl
       where
-        one : (i : ℕ) (y : Store) (t : Bool) → cond t (treated ways s v i y) y .memory ≡ y .memory
+        one : (i : ℕ) (y : Store) (t : Bool) → cond t (treated ways s (v .deed) i y) y .memory ≡ y .memory
         one i y true = keeps i y
         one i y false = refl
 
-module _ (ways : ℕ) (s : Shape) (x : Store) (page : ℕ) where
-  pub swept-memory-map : (frame : ℕ) → visitedAll ways s (Map page frame) x .memory ≡ x .memory
+module _ (ways : ℕ) (s : Shape) (x : Store) (names : Names) where
+  pub swept-memory-drop : visitedAll ways s (visit Drop names) x .memory ≡ x .memory
   unfolding treated dropped noted
-  swept-memory-map frame = swept-memory ways s (Map page frame) x (λ i y. refl)
+  swept-memory-drop = swept-memory ways s (visit Drop names) x (λ i y. refl)
 
-  pub swept-memory-protect : (write : Bool) → visitedAll ways s (Protect page write) x .memory ≡ x .memory
+  pub swept-memory-permit : (write : Bool) → visitedAll ways s (visit (Permit write) names) x .memory ≡ x .memory
   unfolding treated noted
-  swept-memory-protect write = swept-memory ways s (Protect page write) x (λ i y. refl)
+  swept-memory-permit write = swept-memory ways s (visit (Permit write) names) x (λ i y. refl)
 
 -- ---- lines kept, dropped or relabelled, with the map and the bytes of memory changed around them
 
@@ -212,23 +213,15 @@ module _ (ways : ℕ) (s : Shape) (home home′ : ℕ → Home) (x y : Store) (m
 
 -- a visit that writes back and drops, to every record it is for
 module _ (ways : ℕ) (s : Shape) (home : ℕ → Home) (m : List ℕ) where
-  sim-swept : (v : Visit) → ((i : ℕ) (x : Store) → treated ways s v i x ≡ dropped i (writtenBack ways s i x)) → (x : Store)
-      → Sim ways s home x m → Sim ways s home (visitedAll ways s v x) m
-  unfolding visitedAll visited
-  sim-swept v retires x sim =
-      sweep-keeps (visited ways s v) (λ (y : Store). Sim ways s home y m)
-      (λ i y a. one i y a (holdsAt ways s (y .records) i) (selects v (lineAt (y .records) i)) refl)
+  pub sim-retired : (names : Names) (x : Store) → Sim ways s home x m → Sim ways s home (visitedAll ways s (visit Retire names) x) m
+  unfolding visitedAll visited treated
+  sim-retired names x sim =
+      sweep-keeps (visited ways s (visit Retire names)) (λ (y : Store). Sim ways s home y m)
+      (λ i y a. one i y a (holdsAt ways s (y .records) i) (named names (lineAt (y .records) i .name)) refl)
       (s .lines) 0 x sim
     where
-      one : (i : ℕ) (y : Store) → Sim ways s home y m → (t u : Bool) → holdsAt ways s (y .records) i ≡ t → Sim ways s home (cond (t && u) (treated ways s v i y) y) m
-      one i y a true true h = rw (retires i y) (sim-evict a i h)
+      one : (i : ℕ) (y : Store) → Sim ways s home y m → (t u : Bool) → holdsAt ways s (y .records) i ≡ t
+          → Sim ways s home (cond (t && u) (dropped i (writtenBack ways s i y)) y) m
+      one i y a true true h = sim-evict a i h
       one i y a true false h = a
       one i y a false u h = a
-
-  pub sim-swept-unmap : (page : ℕ) (x : Store) → Sim ways s home x m → Sim ways s home (visitedAll ways s (Unmap page) x) m
-  unfolding treated
-  sim-swept-unmap page = sim-swept (Unmap page) (λ i x. refl)
-
-  pub sim-swept-flush : (x : Store) → Sim ways s home x m → Sim ways s home (visitedAll ways s Flush x) m
-  unfolding treated
-  sim-swept-flush = sim-swept Flush (λ i x. refl)

@@ -17,8 +17,9 @@ use Rattle.lines.specs.declared.Line.{Line}
 use Rattle.stores.specs.Stores.{Store, filled, noted, inserted, dropped, Performed, performedAt}
 use Rattle.stores.specs.declared.Access.{Access}
 use Rattle.visits.specs.Visits.{selects, treated, visited, visitedAll}
+use Rattle.visits.specs.declared.Deed.{Deed}
+use Rattle.visits.specs.declared.Deed.the-variants.{Drop, Retire, Permit}
 use Rattle.visits.specs.declared.Visit.{Visit}
-use Rattle.visits.specs.declared.Visit.the-variants.{Map, Unmap, Protect, Flush}
 use Rattle.lines.proofs.Records.{length-put, line-put-same, line-put-other}
 use Rattle.store_laws.proofs.Held.{holds-new, holds-permitted, held-line, held-same}
 use Rattle.store_laws.proofs.Steps.{written-records, evict-records}
@@ -76,16 +77,15 @@ module _ (ways : ℕ) (s : Shape) where
   valid-performed i offset a r cache all = cond-both (λ (p : Performed). AllHold (p .records)) (a .store) _ _ (valid-changed r i all) all
 
   -- every record visited
-  valid-treated : (v : Visit) (i : ℕ) (x : Store) → AllHold (x .records) → AllHold (treated ways s v i x .records)
+  valid-treated : (d : Deed) (i : ℕ) (x : Store) → AllHold (x .records) → AllHold (treated ways s d i x .records)
   unfolding treated dropped noted
-  valid-treated (Map page frame) i x all = valid-dropped (x .records) i all
-  valid-treated (Unmap page) i x all = rw (evict-records ways s i x) (valid-dropped (x .records) i all)
-  valid-treated (Protect page write) i x all = valid-permitted (x .records) i write all
-  valid-treated Flush i x all = rw (evict-records ways s i x) (valid-dropped (x .records) i all)
+  valid-treated Drop i x all = valid-dropped (x .records) i all
+  valid-treated Retire i x all = rw (evict-records ways s i x) (valid-dropped (x .records) i all)
+  valid-treated (Permit write) i x all = valid-permitted (x .records) i write all
 
   pub valid-visited : (v : Visit) (x : Store) → AllHold (x .records) → AllHold (visitedAll ways s v x .records)
   unfolding visitedAll visited
   valid-visited v x all =
       sweep-keeps (visited ways s v) (λ (y : Store). AllHold (y .records))
-      (λ i y h. cond-both (λ (z : Store). AllHold (z .records)) (holdsAt ways s (y .records) i && selects v (lineAt (y .records) i)) _ _ (valid-treated v i y h) h)
+      (λ i y h. cond-both (λ (z : Store). AllHold (z .records)) (holdsAt ways s (y .records) i && selects v (lineAt (y .records) i)) _ _ (valid-treated (v .deed) i y h) h)
       (s .lines) 0 x all

@@ -1,78 +1,60 @@
--- The visits of the records, one by one and all.
-use Prim.Native.Nat.{ℕ, zero, suc, _+_, _-_, _/_, _≤_, _<_}
-use mathlib.Core.Path.{_≡_, refl, sym}
-use mathlib.Core.Bool.{Bool, true, false, _&&_, _||_}
+-- The visit of a record, and sweeps from a record on.
+use Prim.Native.Nat.{ℕ, zero, suc, _+_, _-_, _≤_, _<_}
+use mathlib.Core.Path.{_≡_}
+use mathlib.Core.Bool.{Bool, true, false, _&&_}
 use mathlib.Core.List.{List}
 use native.Mathlib.Numerals.{add-one}
 use native.Mathlib.Omega.{arith}
-use lib.Dec.{eqb}
-use borrow.Author.Tests.{eq-eqb, ne-eqb, eqb-true, eqb-false}
-use Rattle.pages.specs.Pages.{directPage}
 use Rattle.board.specs.declared.Shape.{Shape}
+use Rattle.board.proofs.Bools.{and-false}
 use Rattle.lines.specs.Records.{lineAt, putLine, noLine, permittedLine}
 use Rattle.stores.specs.Stores.{Store, store, writtenBack, noted, dropped}
 use Rattle.lines.specs.Holds.{holdsLine, holdsAt}
-use Rattle.visits.specs.Visits.{selects, treated, visited, sweep}
+use Rattle.ranges.specs.Ranges.{pageNames}
+use Rattle.ranges.specs.declared.Range.{Range}
+use Rattle.ranges.specs.declared.Names.the-variants.{One, Two}
+use Rattle.pages.specs.Pages.{directPage}
+use Rattle.visits.specs.Visits.{visit, mapVisit, selects, treated, visited, sweep}
 use Rattle.lines.specs.declared.Line.{Line}
+use Rattle.visits.specs.declared.Deed.{Deed}
+use Rattle.visits.specs.declared.Deed.the-variants.{Drop, Retire, Permit}
 use Rattle.visits.specs.declared.Visit.{Visit}
-use Rattle.visits.specs.declared.Visit.the-variants.{Map, Unmap, Protect, Flush}
 
--- the page under prefix 1 of a frame, by a difference
-pub direct-below : (page frame : ℕ) → page < 1048576 → false ≡ eqb page (directPage frame)
-direct-below page frame h = sym (ne-eqb page (directPage frame) (λ e. omega (arith, e)))
+-- the visits of the calls, by the ranges of their pages
+module _ (page : ℕ) (r : Range) (e : r ≡ pageNames page) where
+  pub map-is : (frame : ℕ) (q : Range) → q ≡ pageNames (directPage frame) → visit Drop (Two r q) ≡ mapVisit page frame
+  map-is frame q f = rw (e, f)
 
-pub direct-from : (page frame : ℕ) → 1048576 ≤ page → eqb (page - 1048576) frame ≡ eqb page (directPage frame)
-direct-from page frame h = go (eqb (page - 1048576) frame) refl
-  where
-    go : (t : Bool) → eqb (page - 1048576) frame ≡ t → t ≡ eqb page (directPage frame)
-    go true e = sym (eq-eqb page (directPage frame) (omega (arith, eqb-true (page - 1048576) frame e)))
-    go false e = sym (ne-eqb page (directPage frame) (λ k. eqb-false (page - 1048576) frame e (omega (arith, k))))
+  pub page-is : (d : Deed) → visit d (One r) ≡ visit d (One (pageNames page))
+  page-is d = rw e
 
-module _ (l : Line) (v : Visit) (page : ℕ) where
-  pub selects-clear : (frame : ℕ) (t : Bool) → t ≡ eqb (l .name / 256) (directPage frame) → v ≡ Map page frame
-      → (eqb (l .name / 256) page || t) ≡ selects v l
-  unfolding selects
-  selects-clear frame t e k = rw (e, k)
-
-  pub selects-retire : v ≡ Unmap page → eqb (l .name / 256) page ≡ selects v l
-  unfolding selects
-  selects-retire k = rw k
-
-  pub selects-permit : (write : Bool) → v ≡ Protect page write → eqb (l .name / 256) page ≡ selects v l
-  unfolding selects
-  selects-permit write k = rw k
-
-pub selects-flush : (l : Line) (v : Visit) → v ≡ Flush → true ≡ selects v l
-unfolding selects
-selects-flush l v k = rw k
-
-module _ (s : Shape) (v : Visit) (i : ℕ) (r c m r₁ : List ℕ) where
-  pub treated-clear : (page frame : ℕ) → v ≡ Map page frame → r₁ ≡ putLine r i noLine → store r₁ c m ≡ treated 1 s v i (store r c m)
+module _ (s : Shape) (d : Deed) (i : ℕ) (r c m r₁ : List ℕ) where
+  pub treated-drop : d ≡ Drop → r₁ ≡ putLine r i noLine → store r₁ c m ≡ treated 1 s d i (store r c m)
   unfolding treated dropped noted
-  treated-clear page frame k f = rw (k, f)
+  treated-drop k f = rw (k, f)
 
-  pub treated-permit : (page : ℕ) (write : Bool) → v ≡ Protect page write → r₁ ≡ putLine r i (permittedLine (lineAt r i) write)
-      → store r₁ c m ≡ treated 1 s v i (store r c m)
+  pub treated-permit : (write : Bool) → d ≡ Permit write → r₁ ≡ putLine r i (permittedLine (lineAt r i) write) → store r₁ c m ≡ treated 1 s d i (store r c m)
   unfolding treated noted
-  treated-permit page write k f = rw (k, f)
+  treated-permit write k f = rw (k, f)
 
-  module _ (m₁ : List ℕ) (w : store r c m₁ ≡ writtenBack 1 s i (store r c m)) (f : r₁ ≡ putLine r i noLine) where
-    pub treated-retire : (page : ℕ) → v ≡ Unmap page → store r₁ c m₁ ≡ treated 1 s v i (store r c m)
-    unfolding treated dropped noted
-    treated-retire page k = rw (k, f, ← w)
+  pub treated-retire : (m₁ : List ℕ) → store r c m₁ ≡ writtenBack 1 s i (store r c m) → r₁ ≡ putLine r i noLine → d ≡ Retire
+      → store r₁ c m₁ ≡ treated 1 s d i (store r c m)
+  unfolding treated dropped noted
+  treated-retire m₁ w f k = rw (k, f, ← w)
 
-    pub treated-flush : v ≡ Flush → store r₁ c m₁ ≡ treated 1 s v i (store r c m)
-    unfolding treated dropped noted
-    treated-flush k = rw (k, f, ← w)
+module _ (s : Shape) (v : Visit) (i : ℕ) (r c m : List ℕ) (l : Line) (u : Bool) (e : l ≡ lineAt r i) (k : u ≡ selects v l) where
+  pub visited-other : u ≡ false → store r c m ≡ visited 1 s v i (store r c m)
+  unfolding visited
+  visited-other f = rw (← e, ← k, f, and-false (holdsAt 1 s r i))
 
-module _ (s : Shape) (v : Visit) (i : ℕ) (r c m : List ℕ) (l : Line) (t u : Bool) (e : l ≡ lineAt r i) (h : t ≡ holdsLine 1 s i l) (k : u ≡ selects v l) where
-  pub visited-not : (t && u) ≡ false → store r c m ≡ visited 1 s v i (store r c m)
-  unfolding visited holdsAt
-  visited-not f = rw (← e, ← h, ← k, f)
+  module _ (t : Bool) (h : t ≡ holdsLine 1 s i l) (n : u ≡ true) where
+    pub visited-none : t ≡ false → store r c m ≡ visited 1 s v i (store r c m)
+    unfolding visited holdsAt
+    visited-none f = rw (← e, ← h, f)
 
-  pub visited-treated : (r₁ m₁ : List ℕ) → (t && u) ≡ true → store r₁ c m₁ ≡ treated 1 s v i (store r c m) → store r₁ c m₁ ≡ visited 1 s v i (store r c m)
-  unfolding visited holdsAt
-  visited-treated r₁ m₁ f g = rw (← e, ← h, ← k, f) g
+    pub visited-treated : (r₁ m₁ : List ℕ) → t ≡ true → store r₁ c m₁ ≡ treated 1 s (v .deed) i (store r c m) → store r₁ c m₁ ≡ visited 1 s v i (store r c m)
+    unfolding visited holdsAt
+    visited-treated r₁ m₁ f g = rw (← e, ← h, ← k, f, n) g
 
 -- the sweep from record i on
 pub sweep-more : (f : ℕ → Store → Store) (n i : ℕ) (b b₁ : Store) → b₁ ≡ f i b → i < n → sweep f (n - i) i b ≡ sweep f (n - (i + 1)) (i + 1) b₁

@@ -1,35 +1,51 @@
 -- What map, unmap, protect and flush all do to the lines, record by record and by rising place.
 use Prim.Native.Nat.{ℕ, zero, suc}
-use mathlib.Core.Bool.{Bool, true, _&&_, _||_, cond}
-use lib.Dec.{eqb}
-use Rattle.address.specs.Addresses.{pageOfName}
+use mathlib.Core.Bool.{Bool, _&&_, cond}
 use Rattle.pages.specs.Pages.{directPage}
 use Rattle.board.specs.declared.Shape.{Shape}
 use Rattle.lines.specs.Records.{lineAt, permittedLine}
 use Rattle.stores.specs.Stores.{Store, writtenBack, noted, dropped}
 use Rattle.lines.specs.Holds.{holdsAt}
 use Rattle.lines.specs.declared.Line.{Line}
+use Rattle.ranges.specs.Ranges.{named, pageNames}
+use Rattle.ranges.specs.declared.Names.{Names}
+use Rattle.ranges.specs.declared.Names.the-variants.{One, Two, All}
+use Rattle.visits.specs.declared.Deed.{Deed}
+use Rattle.visits.specs.declared.Deed.the-variants.{Drop, Retire, Permit}
 use Rattle.visits.specs.declared.Visit.{Visit}
-use Rattle.visits.specs.declared.Visit.the-variants.{Map, Unmap, Protect, Flush}
 
--- which lines a visit is for: those named in the page, or (map) in the frame's prefix 1 range too, or all
-unfoldable pub selects : Visit → Line → Bool
-selects (Map page frame) l = eqb (pageOfName (l .name)) page || eqb (pageOfName (l .name)) (directPage frame)
-selects (Unmap page) l = eqb (pageOfName (l .name)) page
-selects (Protect page write) l = eqb (pageOfName (l .name)) page
-selects Flush l = true
+-- what is done, and to the lines of which names
+abbrev pub visit : Deed → Names → Visit
+visit d names = record { deed = d; names = names }
 
--- what it does to the line of record i: map drops it; unmap and flush all write it back if changed and drop it; protect gives it the permission
-unfoldable pub treated : ℕ → Shape → Visit → ℕ → Store → Store
-treated ways s (Map page frame) i b = dropped i b
-treated ways s (Unmap page) i b = dropped i (writtenBack ways s i b)
-treated ways s (Protect page write) i b = noted i (permittedLine (lineAt (b .records) i) write) b
-treated ways s Flush i b = dropped i (writtenBack ways s i b)
+-- map drops the lines named in the page or in the frame's prefix 1 range; unmap writes back if changed, and drops, those named in the page;
+-- protect gives those the permission; flush all writes back if changed, and drops, all lines
+abbrev pub mapVisit : ℕ → ℕ → Visit
+mapVisit page frame = visit Drop (Two (pageNames page) (pageNames (directPage frame)))
+
+abbrev pub unmapVisit : ℕ → Visit
+unmapVisit page = visit Retire (One (pageNames page))
+
+abbrev pub protectVisit : ℕ → Bool → Visit
+protectVisit page write = visit (Permit write) (One (pageNames page))
+
+abbrev pub flushVisit : Visit
+flushVisit = visit Retire All
+
+-- a visit is for this line
+abbrev pub selects : Visit → Line → Bool
+selects v l = named (v .names) (l .name)
+
+-- what is done to the line of record i
+unfoldable pub treated : ℕ → Shape → Deed → ℕ → Store → Store
+treated ways s Drop i b = dropped i b
+treated ways s Retire i b = dropped i (writtenBack ways s i b)
+treated ways s (Permit write) i b = noted i (permittedLine (lineAt (b .records) i) write) b
 
 -- record i visited: only held lines change
 unfoldable pub visited : ℕ → Shape → Visit → ℕ → Store → Store
 visited ways s v i b =
-    cond (holdsAt ways s (b .records) i && selects v (lineAt (b .records) i)) (treated ways s v i b) b
+    cond (holdsAt ways s (b .records) i && selects v (lineAt (b .records) i)) (treated ways s (v .deed) i b) b
 
 -- n records from i on, by rising place
 unfoldable pub sweep : (ℕ → Store → Store) → ℕ → ℕ → Store → Store

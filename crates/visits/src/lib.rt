@@ -1,93 +1,141 @@
-// What map, unmap, protect and flush all do to the lines, record by record.
+// What map, unmap, protect and flush all do to the lines: what is done, and to the lines of which names. Only the places of
+// those names are visited.
 ghost use mathlib.Core.Path.{_≡_};
-ghost use Prim.Native.Nat.{_<_};
-ghost use lib.Dec.{eqb};
-ghost use Rattle.pages.specs.Pages.{directPage};
+ghost use Prim.Native.Nat.{_-_, _≤_, _<_};
+ghost use Rattle.address.specs.Layout.{pageEnd};
+ghost use Rattle.board.specs.Shapes.{maxFrames};
 ghost use Rattle.stores.specs.Premises.{Sized};
 ghost use Rattle.stores.specs.Lent.{storeBefore, storeAfter};
-ghost use Rattle.visits.specs.Visits.{selects, treated, visited, visitedAll};
-use address::PAGE_NAMES;
+ghost use Rattle.ranges.specs.Ranges.{pageNames};
+ghost use Rattle.ranges.specs.Places.{Inside};
+ghost use Rattle.ranges.specs.declared.Names.the-variants.{One};
+ghost use Rattle.visits.specs.Visits.{visit, mapVisit, unmapVisit, protectVisit, flushVisit, treated, visited, sweep, visitedAll};
 use board::Shape;
-use lines::Line;
+use ranges::Names;
+use ranges::Run;
 
-// What map, unmap, protect and flush all do to lines.
-pub enum Visit {
-    Map(u64, usize),
-    Unmap(u64),
-    Protect(u64, bool),
-    Flush,
+// What is done to a line: it is dropped; or written back if it is changed, and dropped; or given a permission.
+pub enum Deed {
+    Drop,
+    Retire,
+    Permit(bool),
 }
 
-// The first page under prefix 1.
-const DIRECT_PAGES: u64 = 1048576;
-
-// The page is the prefix 1 page of this frame.
-fn is_direct(page: u64, frame: usize) -> bool
-    ensures { λ r. ⌜ r ≡ eqb page (directPage frame) ⌝ }
-{
-    if page < DIRECT_PAGES {
-        return false;
-    }
-    page - DIRECT_PAGES == frame as u64
+// What is done, and to the lines of which names.
+pub struct Visit {
+    pub deed: Deed,
+    pub names: Names,
 }
 
-// A visit is for this line.
-fn selected(v: Visit, l: Line) -> bool
-    ensures { λ r. ⌜ r ≡ selects v l ⌝ }
+// Map drops the lines named in the page or in the frame's prefix 1 range.
+pub fn of_map(page: u64, frame: usize) -> Visit
+    requires { ⌜ (page < pageEnd) × (frame < maxFrames) ⌝ }
+    ensures { λ v. ⌜ v ≡ mapVisit page frame ⌝ }
 {
-    let p = l.name / PAGE_NAMES;
-    match v {
-        Visit::Map(page, frame) => (p == page) | is_direct(p, frame),
-        Visit::Unmap(page) => p == page,
-        Visit::Protect(page, _) => p == page,
-        Visit::Flush => true,
+    let range = ranges::page_names(page);
+    let direct = ranges::direct_names(frame);
+    Visit {
+        deed: Deed::Drop,
+        names: Names::Two(range, direct),
     }
 }
 
-// Does to the line of record `i` what the visit is for.
-fn treat(s: Shape, records: &mut [u64], cache: &[u8], memory: &mut [u8], i: usize, v: Visit)
+// What is done to the lines named in a page.
+fn of_page(deed: Deed, page: u64) -> Visit
+    requires { ⌜ page < pageEnd ⌝ }
+    ensures { λ v. ⌜ v ≡ visit deed (One (pageNames page)) ⌝ }
+{
+    let range = ranges::page_names(page);
+    Visit {
+        deed: deed,
+        names: Names::One(range),
+    }
+}
+
+// Unmap writes them back if they are changed, and drops them.
+pub fn of_unmap(page: u64) -> Visit
+    requires { ⌜ page < pageEnd ⌝ }
+    ensures { λ v. ⌜ v ≡ unmapVisit page ⌝ }
+{
+    of_page(Deed::Retire, page)
+}
+
+// Protect gives them the permission.
+pub fn of_protect(page: u64, write: bool) -> Visit
+    requires { ⌜ page < pageEnd ⌝ }
+    ensures { λ v. ⌜ v ≡ protectVisit page write ⌝ }
+{
+    of_page(Deed::Permit(write), page)
+}
+
+// Flush all writes back, if they are changed, and drops all lines.
+pub fn of_flush() -> Visit
+    ensures { λ v. ⌜ v ≡ flushVisit ⌝ }
+{
+    Visit {
+        deed: Deed::Retire,
+        names: Names::All,
+    }
+}
+
+// Does it to the line of record `i`.
+fn treat(s: Shape, records: &mut [u64], cache: &[u8], memory: &mut [u8], i: usize, d: Deed)
     requires { ⌜ Sized s (now records) (now cache) (now memory) × (i < s .lines) ⌝ }
-    ensures { λ _. ⌜ storeAfter records cache memory ≡ treated 1 s v i (storeBefore records cache memory) ⌝ }
+    ensures { λ _. ⌜ storeAfter records cache memory ≡ treated 1 s d i (storeBefore records cache memory) ⌝ }
 {
-    match v {
-        Visit::Map(_, _) => {
+    match d {
+        Deed::Drop => {
             lines::drop_line(records, i);
         }
-        Visit::Unmap(_) => {
+        Deed::Retire => {
             stores::write_back(s, records, cache, memory, i);
             lines::drop_line(records, i);
         }
-        Visit::Protect(_, write) => {
+        Deed::Permit(write) => {
             lines::permit_line(records, i, write);
         }
-        Visit::Flush => {
-            stores::write_back(s, records, cache, memory, i);
-            lines::drop_line(records, i);
-        }
     }
 }
 
-// Visits record `i`: only a held line changes.
+// Visits record `i`: only a held line of the names changes.
 fn visit_line(s: Shape, records: &mut [u64], cache: &[u8], memory: &mut [u8], i: usize, v: Visit)
     requires { ⌜ Sized s (now records) (now cache) (now memory) × (i < s .lines) ⌝ }
     ensures { λ _. ⌜ storeAfter records cache memory ≡ visited 1 s v i (storeBefore records cache memory) ⌝ }
 {
     let l = lines::line_at(records, i);
-    let h = lines::holds(s, i, l);
-    if h & selected(v, l) {
-        treat(s, records, cache, memory, i, v);
+    let names = v.names;
+    if ranges::is_named(names, l.name) {
+        if lines::holds(s, i, l) {
+            let deed = v.deed;
+            treat(s, records, cache, memory, i, deed);
+        }
     }
 }
 
-// Visits every record, by rising place.
-pub fn visit_all(s: Shape, records: &mut [u64], cache: &[u8], memory: &mut [u8], v: Visit)
+// Visits the records of a run of places, which are places of the names.
+fn visit_run(s: Shape, records: &mut [u64], cache: &[u8], memory: &mut [u8], v: Visit, run: Run)
+    requires { ⌜ Sized s (now records) (now cache) (now memory) × (run .end ≤ s .lines) × Inside (s .lines) (v .names) run ⌝ }
+    ensures { λ _. ⌜ storeAfter records cache memory ≡ sweep (visited 1 s v) (run .end - run .start) (run .start) (storeBefore records cache memory) ⌝ }
+{
+    let end = run.end;
+    let mut i = run.start;
+    while i < end {
+        visit_line(s, records, cache, memory, i, v);
+        i += 1;
+    }
+}
+
+// Visits the places of the names, run by run and by rising place: no other record can hold a line of theirs.
+pub fn visit_names(s: Shape, records: &mut [u64], cache: &[u8], memory: &mut [u8], v: Visit)
     requires { ⌜ Sized s (now records) (now cache) (now memory) ⌝ }
     ensures { λ _. ⌜ storeAfter records cache memory ≡ visitedAll 1 s v (storeBefore records cache memory) ⌝ }
 {
     let lines = s.lines;
-    let mut i: usize = 0;
-    while i < lines {
-        visit_line(s, records, cache, memory, i, v);
-        i += 1;
+    let names = v.names;
+    let mut place: usize = 0;
+    while place < lines {
+        let run = ranges::next_run(lines, names, place);
+        visit_run(s, records, cache, memory, v, run);
+        place = run.end;
     }
 }

@@ -10,7 +10,7 @@ pub flush-all-spec : {M : Type 1} → statement M
 unfolding flushAll
 flush-all-spec =
     tie.close (tie.spec
-    (search needs)
+    (search needs) (search needs)
     (λ c κs. search (needs, fit-sized))
     (search needs) (search needs) (search needs) (search needs)
     (λ c tag. search (needs, flush-done))

@@ -12,15 +12,17 @@ unfolding protect
 protect-spec =
     tie.close (tie.spec
     (search needs) (search needs) (search needs) (search needs) (search needs)
+    (λ c κs. search (needs, frame-page))
     (λ c κs. search (needs, fit-sized))
     (λ c κs. search (needs, frame-page))
     (λ c. search (needs, frame-inside))
-    (λ c. let d = c .before .before .before .before .before .before .before .before .before in omega (arith, frame-inside _ _ _ _ _ (d .before .before .page-frame .ensures) (d .f .given .1)))
+    (λ c. let d = c .before .before .before .before .before .before .before .before .before .before in omega (arith, frame-inside _ _ _ _ _ (d .before .before .page-frame .ensures) (d .f .given .1)))
     (search needs) (search needs) (search needs)
     (λ c tag. search (needs, protect-stop))
     (search needs) (search needs) (search needs)
     (λ c tag.
-    let d = c .before .before .before .before .before .before .before .before .before .before in
-    protect-done _ _ _ _ _ _ tag _ (d .before .before .before .before .before .fits2 .ensures) (d .before .before .before .before .if1 .taken) _ _ _ (d .before .before .page-frame .ensures) _ _ _ _ _ (d .f .given .1)
-    (c .before .before .before .before .before .before .visit-all .ensures) (c .before .frame-word .ensures) (c .numbered2 .ensures))
+    let v = c .before .before .before .before .before .before in
+    let d = v .before .before .before .before .before in
+    protect-done _ _ _ _ _ _ tag _ (d .before .before .before .before .before .fits2 .ensures) (d .before .before .before .before .if1 .taken) _ _ _ (d .before .before .page-frame .ensures) _ _ _ _ _ _ (d .f .given .1) (v .before .of-protect .ensures)
+    (v .visit-names .ensures) (c .before .frame-word .ensures) (c .numbered2 .ensures))
     (λ c tag. search (needs, unfit)))

@@ -58,7 +58,7 @@ use Rattle.board.proofs.Answer.Laws as N′
 use Rattle.board.proofs.Shape as S
 use Rattle.board.proofs.Shape.Laws as S′
 use Rattle.lines.specs.declared.Line.{Line}
-use Rattle.visits.specs.declared.Visit.the-variants.{Flush}
+use Rattle.visits.specs.Visits.{flushVisit}
 use Rattle.lines.proofs.Line as L
 use Rattle.lines.proofs.Line.Laws as L′
 use Rattle.record_steps.specs.Lent.{lineVisited, linesVisited, lineFlushed, flushedMemory}
@@ -195,19 +195,19 @@ module _ {M : Type 1} (𝓤 : URA M) (H : Heap 𝓤) (A : Atoms 𝓤) (W : Given
 
     -- the lines and memory after i turns, and at the end
     abbrev Ls : ℕ → List Line
-    Ls i = visitedUpto s Flush 0 i xs
+    Ls i = visitedUpto s flushVisit 0 i xs
 
     abbrev Ms : ℕ → List ℕ
     Ms i = memoryUpto s (cref .now) 0 i xs m
 
     abbrev Out : List Line
-    Out = cond done-is (linesVisited s Flush 0 xs) xs
+    Out = cond done-is (linesVisited s flushVisit 0 xs) xs
 
     abbrev OutM : List ℕ
     OutM = cond done-is (flushedMemory s 0 xs (cref .now) m) m
 
     out-length : length Out ≡ n
-    out-length = sym (ap length (upto-turns s Flush done-is xs)) ∙ upto-length s Flush 0 made xs
+    out-length = sym (ap length (upto-turns s flushVisit done-is xs)) ∙ upto-length s flushVisit 0 made xs
 
     outm-length : length OutM ≡ length m
     outm-length = sym (ap length (memory-turns s (cref .now) done-is xs m)) ∙ memory-length s (cref .now) 0 made xs m
@@ -317,7 +317,7 @@ module _ {M : Type 1} (𝓤 : URA M) (H : Heap 𝓤) (A : Atoms 𝓤) (W : Given
             -- the lifetime is ended, and memory comes back at that list
             split ! $ move ! (1 ∷ []) $ split ! $ lft-end ! tt $ move ! (0 ∷ 6 ∷ 3 ∷ []) $
             use3 W (later (‵ (MutSlice (named 4) κm u8 .own (mref γm (ws .1 .1 .1 .1 .0)) (sliceVal (bm, om) (length (Ms i)) ∷ [])) ⊛ ‵ (flft κm qm))) (comes-back u8 κm (ν ∷ []) qm γm bm om 𝓤 H A W (named 4) (named 1) (Ms i) δ (ws .1 .1 .1 .1 .0) (subst (Room u8) (sym lm) gm) lw) $ await ! tt $ split ! $
-            rewrite ! 0 (λ (k : ℕ). ‵ (MutSlice (named 4) κm u8 .own (mref γm (ws .1 .1 .1 .1 .0)) (sliceVal (bm, om) k ∷ []))) lm refl $ rewrite ! 0 (λ (ys : List ℕ). ‵ (Mem ys)) (e .1 ∙ memory-more s (cref .now) Flush i xs m none inside) refl $
+            rewrite ! 0 (λ (k : ℕ). ‵ (MutSlice (named 4) κm u8 .own (mref γm (ws .1 .1 .1 .1 .0)) (sliceVal (bm, om) k ∷ []))) lm refl $ rewrite ! 0 (λ (ys : List ℕ). ‵ (Mem ys)) (e .1 ∙ memory-more s (cref .now) flushVisit i xs m none inside) refl $
             -- [memory; its token; …; lines[i]; what it owned; the others; _10; _9; …]
             assigns ! (bin ! (load ! (from ! (stop !)) (look ! 9 refl)) (lit ! tt) (record { fits = mul-fits })) (from ! (stop !)) (store ! 13 refl (tt, record { fits = mul-fits })) $
             assigns ! (bin ! (load ! (from ! (fld ! refl (stop !))) (look-in ! 19 (sub ! 0 refl (whole !)))) (load ! (from ! (stop !)) (look ! 13 refl)) tt) (from ! (stop !)) (init ! 18 refl (tt, tt)) $
@@ -326,7 +326,7 @@ module _ {M : Type 1} (𝓤 : URA M) (H : Heap 𝓤) (A : Atoms 𝓤) (W : Given
             assigns-last ! (bin ! (load ! (from ! (stop !)) (look ! 9 refl)) (lit ! tt) (record { fits = next-fits })) (from ! (stop !)) (store ! 9 refl (tt, record { fits = next-fits })) $
             -- the new line goes into the row, which is then as after one turn more
             move ! (7 ∷ []) $ drop ! $ owned ! L.the-row (Is L.the-row) (LL.makes L.the-type L′.the-plain 𝓤 H A) r _ (told r v is) $ move ! (7 ∷ 0 ∷ 8 ∷ []) $ elem-put ! L.the-row fullShare (Ls i) i r (vals r) b o within $
-            rewrite ! 0 (λ (ys : List Line). ‵ (row L.the-row fullShare ys b o)) (upto-set s Flush i xs none r inside (e .0)) refl $
+            rewrite ! 0 (λ (ys : List Line). ‵ (row L.the-row fullShare ys b o)) (upto-set s flushVisit i xs none r inside (e .0)) refl $
             rewrite ! 7 (λ (j : ℕ). ‵ (fat fullShare word l₁₀ 0 (vint w64 j))) (add-one i) refl $
             forget ! 9 refl $ forget ! 10 refl $ forget ! 11 refl $ forget ! 12 refl $ forget ! 13 refl $ forget ! 14 refl $ forget ! 15 refl $ forget ! 16 refl $
             use1 W (given (suc i ≤ made) (Row (suc i))) (guardI 𝓤 (suc i ≤ made) _ small) $ keep ! (0 ∷ 7 ∷ 8 ∷ 9 ∷ 10 ∷ 11 ∷ 12 ∷ 13 ∷ 14 ∷ 15 ∷ 16 ∷ 17 ∷ 18 ∷ 19 ∷ 20 ∷ 6 ∷ 4 ∷ 1 ∷ 2 ∷ 21 ∷ []) $
@@ -336,7 +336,7 @@ module _ {M : Type 1} (𝓤 : URA M) (H : Heap 𝓤) (A : Atoms 𝓤) (W : Given
             z = getD (Ls i) i none
 
             Said-line : Line → List ℕ → Type 0
-            Said-line r ys = (r ≡ lineVisited s Flush i z) × (ys ≡ lineFlushed s i z (cref .now) (Ms i))
+            Said-line r ys = (r ≡ lineVisited s flushVisit i z) × (ys ≡ lineFlushed s i z (cref .now) (Ms i))
 
             lm : length (Ms i) ≡ length m
             lm = memory-length s (cref .now) 0 i xs m
@@ -345,7 +345,7 @@ module _ {M : Type 1} (𝓤 : URA M) (H : Heap 𝓤) (A : Atoms 𝓤) (W : Given
             inside = omega (arith, small, turns-within done-is n)
 
             within : i < length (Ls i)
-            within = subst (λ (k : ℕ). i < k) (sym (upto-length s Flush 0 i xs)) inside
+            within = subst (λ (k : ℕ). i < k) (sym (upto-length s flushVisit 0 i xs)) inside
 
             ok : Placed s i (length (cref .now)) (length (Ms i))
             ok = subst (λ (k : ℕ). Placed s i (length (cref .now)) k) (sym lm)
@@ -370,7 +370,7 @@ module _ {M : Type 1} (𝓤 : URA M) (H : Heap 𝓤) (A : Atoms 𝓤) (W : Given
             rewrite ! 4 (λ (t : Bool). ‵ (fat fullShare tyBool l₁₆ 0 (vbool t))) (le-ltb made made (omega arith)) refl $
             leaves-loop ! (load ! (from ! (stop !)) (look ! 4 refl)) $ exec ! (𝓣 .C) (𝓣 .Λ) E mir.t-10 (atRet E Post) $
             assigns ! (of-opd ! (load ! (from ! (stop !)) (look ! 20 refl))) (from ! (stop !)) (init ! 19 refl (LL.lawful N.the-type N′.the-laws 𝓤 H A W .typed a _ is-a .0)) $
-            rewrite ! 0 (λ (ys : List Line). ‵ (row L.the-row fullShare ys b o)) (upto-turns s Flush done-is xs) refl $
+            rewrite ! 0 (λ (ys : List Line). ‵ (row L.the-row fullShare ys b o)) (upto-turns s flushVisit done-is xs) refl $
             rewrite ! 17 (λ (ys : List ℕ). ‵ (Mem ys)) (memory-turns s (cref .now) done-is xs m) refl $
             move ! (0 ∷ 28 ∷ 29 ∷ 30 ∷ []) $ closes-slice ! tt L.the-row xs Out out-length b o $
             returns ! (look ! 21 refl) $ forget ! 21 refl $ forget ! 14 refl $ forget ! 23 refl $ forget ! 24 refl $ forget ! 13 refl $ forget ! 15 refl $ forget ! 16 refl $ forget ! 22 refl $ forget ! 4 refl $ forget ! 3 refl $ forget ! 6 refl $
@@ -390,7 +390,7 @@ module _ {M : Type 1} (𝓤 : URA M) (H : Heap 𝓤) (A : Atoms 𝓤) (W : Given
         begins =
             assigns ! (of-opd ! (lit ! tt)) (from ! (stop !)) (init ! 24 refl (tt, record { fits = lit< tt })) $
             move ! (46 ∷ 47 ∷ 48 ∷ []) $ opens-slice ! tt L.the-row xs b o $
-            rewrite ! 0 (λ (ys : List Line). ‵ (row L.the-row fullShare ys b o)) (sym (upto-none s Flush 0 xs)) refl $
+            rewrite ! 0 (λ (ys : List Line). ‵ (row L.the-row fullShare ys b o)) (sym (upto-none s flushVisit 0 xs)) refl $
             rewrite ! 52 (λ (ys : List ℕ). ‵ (Mem ys)) (sym (memory-none s (cref .now) 0 xs m)) refl $
             use1 W (given (0 ≤ made) (‵ (row L.the-row fullShare (Ls 0) b o))) (guardI 𝓤 (0 ≤ made) _ (omega arith)) $ first ! $ blocks ! $
             keep ! (0 ∷ 28 ∷ 30 ∷ 26 ∷ 16 ∷ 14 ∷ 12 ∷ 10 ∷ 8 ∷ 6 ∷ 4 ∷ 40 ∷ 46 ∷ 38 ∷ 36 ∷ 50 ∷ 51 ∷ 52 ∷ 53 ∷ 48 ∷ 32 ∷ 44 ∷ 42 ∷ 34 ∷ 24 ∷ 22 ∷ 20 ∷ 18 ∷ 1 ∷ 2 ∷ 3 ∷ 54 ∷ 49 ∷ 47 ∷ 45 ∷ 43 ∷ 41 ∷ 39 ∷ 37 ∷ 35 ∷ 33 ∷ 31 ∷ 29 ∷ 27 ∷ 25 ∷ 23 ∷ 21 ∷ 19 ∷ 17 ∷ 15 ∷ 13 ∷ 11 ∷ 9 ∷ 7 ∷ 5 ∷ []) $ packs ! (I 0) (id⊢ 𝓤 _) $

@@ -60,7 +60,7 @@ use Rattle.board.proofs.Shape as S
 use Rattle.board.proofs.Shape.Laws as S′
 use Rattle.lines.specs.declared.Line.{Line}
 use Rattle.visits.specs.declared.Visit.{Visit}
-use Rattle.visits.specs.declared.Visit.the-variants.{Protect}
+use Rattle.visits.specs.Visits.{protectVisit}
 use Rattle.lines.proofs.Line as L
 use Rattle.lines.proofs.Line.Laws as L′
 use Rattle.record_steps.specs.Lent.{linesVisited, lineVisited}
@@ -119,8 +119,8 @@ module _ {M : Type 1} (𝓤 : URA M) (H : Heap 𝓤) (A : Atoms 𝓤) (mem : Mem
   abbrev Single : Contract 𝓤
   Single = tripleOf 𝓤 H A single.signature (single.spec 𝓤 H A mem run)
 
-  single-said : (s : Shape) (i : ℕ) (l : Line) (p : ℕ) (w : Bool) (r : Line) → ent 𝓤 (ensured 𝓤 H A single.ended (single.clauses 𝓤 H A mem run) tt (s, (i, (l, (p, (w, tt))))) tt r) (fact 𝓤 (r ≡ lineVisited s (Protect p w) i l))
-  single-said s i l p w r = exE 𝓤 _ (λ ws. snd∗ 𝓤 (sem 𝓤 H A (lasts single.ended tt (s, (i, (l, (p, (w, tt))))) ws)) (fact 𝓤 (r ≡ lineVisited s (Protect p w) i l)))
+  single-said : (s : Shape) (i : ℕ) (l : Line) (p : ℕ) (w : Bool) (r : Line) → ent 𝓤 (ensured 𝓤 H A single.ended (single.clauses 𝓤 H A mem run) tt (s, (i, (l, (p, (w, tt))))) tt r) (fact 𝓤 (r ≡ lineVisited s (protectVisit p w) i l))
+  single-said s i l p w r = exE 𝓤 _ (λ ws. snd∗ 𝓤 (sem 𝓤 H A (lasts single.ended tt (s, (i, (l, (p, (w, tt))))) ws)) (fact 𝓤 (r ≡ lineVisited s (protectVisit p w) i l)))
 
 module _ {M : Type 1} (𝓤 : URA M) (H : Heap 𝓤) (A : Atoms 𝓤) (W : Given 𝓤 H A) (at-mem : Memory → SProp 𝓤) (run : Routine → Fun 𝓤) (κ₀ κ₁ κ κ₃ κ₄ : Lft) (q₀ q₁ q q₃ q₄ : Share) (s : Shape) (slots words : RefT (List ℕ)) (b o : ℕ) (γ : GName) (xs : List Line) (cache memory : RefT (List ℕ)) (p : ℕ) (w : Bool)
     (s-was : Is S.the-row s (svals s)) (g₀ : Room u32 (length (slots .now))) (g₁ : Room u64 (length (words .now))) (g : Room L.the-row (length xs)) (g₃ : Room u8 (length (cache .now))) (g₄ : Room u8 (length (memory .now))) (p-fits : p < 2 ^ 64) where
@@ -202,7 +202,7 @@ module _ {M : Type 1} (𝓤 : URA M) (H : Heap 𝓤) (A : Atoms 𝓤) (W : Given
     made = turnsWhen done-is n
 
     abbrev visit : Visit
-    visit = Protect p w
+    visit = protectVisit p w
 
     -- the lines after i turns, and at the end
     abbrev Ls : ℕ → List Line

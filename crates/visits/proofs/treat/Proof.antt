@@ -1,5 +1,5 @@
--- `treat` does what each kind of visit is for.
-use Rattle.visits.proofs.Visits.{treated-clear, treated-retire, treated-permit, treated-flush}
+-- `treat` does what is to be done.
+use Rattle.visits.proofs.Visits.{treated-drop, treated-retire, treated-permit}
 use borrow.Author.Needs.{needs}
 use Rattle.visits.proofs.treat.Statement.{statement}
 use Rattle.visits.proofs.treat.Tie as tie
@@ -7,12 +7,9 @@ use Rattle.visits.proofs.treat.Tie as tie
 pub treat-spec : {M : Type 1} → statement M
 treat-spec =
     tie.close (tie.spec
-    (search needs) (search needs) (search needs) (search needs) (search needs) (search needs) (search needs)
-    (search needs) (search needs) (search needs) (search needs)
-    (λ c. search (needs, treated-clear))
+    (search needs) (search needs) (search needs) (search needs) (search needs) (search needs) (search needs) (search needs)
+    (λ c. search (needs, treated-drop))
     (search needs) (search needs)
     (λ c. search (needs, treated-retire))
     (search needs)
-    (λ c. search (needs, treated-permit))
-    (search needs) (search needs)
-    (λ c. search (needs, treated-flush)))
+    (λ c. search (needs, treated-permit)))

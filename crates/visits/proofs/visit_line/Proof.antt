@@ -1,5 +1,5 @@
--- `visit_line` treats a held line that the visit is for.
-use Rattle.visits.proofs.Visits.{visited-treated, visited-not}
+-- `visit_line` treats a held line of the names.
+use Rattle.visits.proofs.Visits.{visited-treated, visited-none, visited-other}
 use borrow.Author.Needs.{needs}
 use Rattle.visits.proofs.visit_line.Statement.{statement}
 use Rattle.visits.proofs.visit_line.Tie as tie
@@ -10,4 +10,6 @@ visit-line-spec =
     (search needs) (search needs) (search needs) (search needs) (search needs) (search needs)
     (λ c. search (needs, visited-treated))
     (search needs)
-    (λ c. search (needs, visited-not)))
+    (λ c. search (needs, visited-none))
+    (search needs)
+    (λ c. search (needs, visited-other)))
