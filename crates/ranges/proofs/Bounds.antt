@@ -3,20 +3,20 @@ use Prim.Native.Nat.{ℕ, zero, suc, _+_, _-_, _%_, _≤_, _<_}
 use mathlib.Core.Path.{_≡_, _∙_, refl, sym}
 use mathlib.Core.Bool.{Bool, true, false, cond, _||_}
 use mathlib.Core.List.{List, [], _∷_}
-use native.Mathlib.Nat.{mod-lt}
+use native.Mathlib.Nat.{mod-lt, mod-eq-of-lt}
 use native.Mathlib.Omega.{arith}
-use lib.Dec.{leb, ltb}
-use borrow.Author.Tests.{ltb-true, ltb-false, lt-ltb, le-leb, lt-leb, leb-true, leb-false}
-use Rattle.board.proofs.Bools.{clash, or-left, or-right}
-use Rattle.ranges.specs.Ranges.{inRange, named}
-use Rattle.ranges.specs.Places.{PlaceOf, NextRun}
+use lib.Dec.{eqb, leb, ltb}
+use lib.ListN.{length}
+use borrow.Author.Tests.{ltb-true, ltb-false, lt-ltb, le-leb, lt-leb, leb-true, leb-false, eqb-true, eqb-false}
+use Rattle.board.proofs.Bools.{or-left, or-right}
+use Rattle.ranges.specs.Ranges.{named}
+use Rattle.ranges.specs.Places.{HasPlace, NextRun}
 use Rattle.ranges.specs.Bounds.{Runs, placesIn, Bounds}
 use Rattle.ranges.specs.declared.Range.{Range}
 use Rattle.ranges.specs.declared.Names.{Names}
 use Rattle.ranges.specs.declared.Names.the-variants.{One, Two, All}
 use Rattle.ranges.specs.declared.Run.{Run}
-use Rattle.ranges.proofs.Ranges.{page-names}
-use Rattle.ranges.proofs.Places.{names-on, names-round, reached, of-either, run-here, run-first, run-none, run-earlier, run-all}
+use Rattle.ranges.proofs.Places.{names-on, names-round, reached, of-either, run-nameless, run-here, run-first, run-over, run-earlier, run-all}
 
 -- ---- how many of n places from p on pass a test
 
@@ -71,7 +71,7 @@ tally-below t d c (suc n) p h =
 
 -- ---- the places of runs
 
-runs-tallied : (sets : ℕ) (names : Names) (t : ℕ → Bool) → ((q : ℕ) → q < sets → PlaceOf sets names q → t q ≡ true)
+runs-tallied : (sets : ℕ) (names : Names) (t : ℕ → Bool) → ((q : ℕ) → q < sets → HasPlace sets names q → t q ≡ true)
     → (rs : List Run) (place : ℕ) → Runs sets names place rs → placesIn rs ≤ tally t (sets - place) place
 unfolding Runs placesIn
 runs-tallied sets names t h [] place w = omega arith
@@ -109,7 +109,7 @@ module _ (sets : ℕ) (pos : 0 < sets) (r : Range) where
   unfolding comes
   comes-round q h = rw (lt-leb _ _ h)
 
-  comes-to : (q : ℕ) → q < sets → PlaceOf sets (One r) q → comes q ≡ true
+  comes-to : (q : ℕ) → q < sets → HasPlace sets (One r) q → comes q ≡ true
   comes-to q h f = go (leb start q) refl
     where
       low : start < sets
@@ -140,12 +140,16 @@ module _ (sets : ℕ) (pos : 0 < sets) (r : Range) where
 
 module _ (sets : ℕ) (pos : 0 < sets) where
   some-after : (r : Range) (place before : ℕ) → before < sets → (r .first + before) % sets ≡ place → place < sets → (x : Run) × NextRun sets (One r) place x
-  some-after r place before low there h = go (ltb before (r .count)) (ltb place before) refl refl
+  some-after r place before low there h = go (ltb before (r .count)) (ltb place before) (eqb (r .count) 0) refl refl refl
     where
-      go : (t u : Bool) → ltb before (r .count) ≡ t → ltb place before ≡ u → (x : Run) × NextRun sets (One r) place x
-      go true u e f = (_, run-here sets r place before low there h _ refl (ltb-true _ _ e))
-      go false true e f = (_, run-first sets r place before low there h (ltb-false _ _ e) _ refl (ltb-true _ _ f) _ refl)
-      go false false e f = (_, run-none sets r place before low there h (ltb-false _ _ e) (ltb-false _ _ f))
+      end : Run
+      end = record { start = sets; end = sets }
+
+      go : (t u v : Bool) → ltb before (r .count) ≡ t → ltb place before ≡ u → eqb (r .count) 0 ≡ v → (x : Run) × NextRun sets (One r) place x
+      go true u v e f g = (_, run-here sets r place before low there h _ refl (ltb-true _ _ e))
+      go false true true e f g = (end, run-nameless sets r place end (refl, refl) h (eqb-true _ _ g))
+      go false true false e f g = (_, run-first sets r place before low there h (ltb-false _ _ e) _ refl (ltb-true _ _ f) _ refl (eqb-false _ _ g))
+      go false false v e f g = (end, run-over sets r place before low there h (ltb-false _ _ e) (ltb-false _ _ f) end (refl, refl))
 
   some-one : (r : Range) (place : ℕ) → place < sets → (x : Run) × NextRun sets (One r) place x
   some-one r place h = go (leb (start sets pos r) place) refl
@@ -169,41 +173,97 @@ module _ (sets : ℕ) (pos : 0 < sets) where
       (_, run-earlier sets place (Two r q) r q refl (a .0) (b .0) _ (a .1) (b .1) refl)
   some-next All place h = (_, run-all sets place All refl h)
 
-  -- at most n runs are left with n places
-  some-runs : (names : Names) (n place : ℕ) → sets ≤ place + n → (rs : List Run) × Runs sets names place rs
-  unfolding Runs
-  some-runs names zero place h = ([], omega arith)
-  some-runs names (suc n) place h = go (ltb place sets) refl (some-runs names n)
+-- n places are left
+some-runs : (sets : ℕ) (names : Names) (n place : ℕ) → sets ≤ place + n → (rs : List Run) × Runs sets names place rs
+unfolding Runs
+some-runs sets names zero place h = ([], omega arith)
+some-runs sets names (suc n) place h = go (ltb place sets) refl (some-runs sets names n)
+  where
+    go : (t : Bool) → ltb place sets ≡ t → ((p : ℕ) → sets ≤ p + n → (rs : List Run) × Runs sets names p rs) → (rs : List Run) × Runs sets names place rs
+    go true t later =
+        let b = ltb-true place sets t in
+        let x = some-next sets (omega arith) names place b in
+        let a = x .1 .onward in
+        let rest = later (x .0 .end) (omega arith) in
+        (x .0 ∷ rest .0, (x .1, rest .1))
+    go false t later = ([], ltb-false _ _ t)
+
+-- ---- how many
+
+module _ (sets : ℕ) where
+  most : (names : Names) (rs : List Run) → Runs sets names 0 rs → placesIn rs ≤ sets
+  most names rs w =
+      let a = runs-tallied sets names (λ p. true) (λ p h f. refl) rs 0 w in
+      let b = tally-most (λ p. true) (sets - 0) 0 in
+      omega arith
+
+  -- a count of a test that every place of the names passes, where there are places at all
+  by-tally : (names : Names) (c : ℕ) (rs : List Run) → Runs sets names 0 rs
+      → ((pos : 0 < sets) → (t : ℕ → Bool) × ((q : ℕ) → q < sets → HasPlace sets names q → t q ≡ true) × (tally t sets 0 ≤ c)) → placesIn rs ≤ c
+  by-tally names c rs w test = go (ltb 0 sets) refl
     where
-      go : (t : Bool) → ltb place sets ≡ t → ((p : ℕ) → sets ≤ p + n → (rs : List Run) × Runs sets names p rs) → (rs : List Run) × Runs sets names place rs
-      go true t later =
-          let x = some-next names place (ltb-true _ _ t) in
-          let a = x .1 .onward in
-          let rest = later (x .0 .end) (omega arith) in
-          (x .0 ∷ rest .0, (x .1, rest .1))
-      go false t later = ([], ltb-false _ _ t)
+      go : (u : Bool) → ltb 0 sets ≡ u → placesIn rs ≤ c
+      go true e =
+          let t = test (ltb-true _ _ e) in
+          let z : sets - 0 ≡ sets = omega arith in
+          let a = runs-tallied sets names (t .0) (t .1) rs 0 w in
+          let b = t .2 in
+          let a′ = rw z at a in
+          omega arith
+      go false e = let a = ltb-false 0 sets e in let b = most names rs w in omega arith
+
+  one : (r : Range) (rs : List Run) → Runs sets (One r) 0 rs → placesIn rs ≤ r .count
+  one r rs w = by-tally (One r) (r .count) rs w (λ pos. (comes sets pos r, comes-to sets pos r, comes-few sets pos r))
+
+  two : (r q : Range) (rs : List Run) → Runs sets (Two r q) 0 rs → placesIn rs ≤ r .count + q .count
+  two r q rs w = by-tally (Two r q) (r .count + q .count) rs w (λ pos. (
+    (λ p. comes sets pos r p || comes sets pos q p),
+    (λ p h f. of-either sets r q p _ (λ g. or-left _ _ (comes-to sets pos r p h g)) (λ g. or-right (comes sets pos r p) _ (comes-to sets pos q p h g)) f),
+    (let a = tally-either (comes sets pos r) (comes sets pos q) sets 0 in let b = comes-few sets pos r in let c = comes-few sets pos q in omega arith),
+  ))
+
+  -- a run of all names passes over no place
+  all : (rs : List Run) (place : ℕ) → place ≤ sets → Runs sets All place rs → placesIn rs ≡ sets - place
+  unfolding Runs placesIn named
+  all [] place h w = omega arith
+  all (r ∷ rs) place h w = go (ltb place (r .start)) refl (all rs (r .end) (w .0 .within) (w .1))
+    where
+      go : (t : Bool) → ltb place (r .start) ≡ t → placesIn rs ≡ sets - r .end → (r .end - r .start) + placesIn rs ≡ sets - place
+      go true t e =
+          let a = ltb-true place (r .start) t in
+          let b = w .0 .upward in
+          let c = w .0 .within in
+          absurd (w .0 .passed place (omega arith) a (record { name = place; is-named = refl; is-there = mod-eq-of-lt (omega arith) }))
+      go false t e =
+          let a = ltb-false place (r .start) t in
+          let b = w .0 .from in
+          let c = w .0 .upward in
+          let d = w .0 .within in
+          omega arith
+
+  -- every run has a place but the last
+  few : (names : Names) (rs : List Run) (place : ℕ) → Runs sets names place rs → length rs ≤ placesIn rs + 1
+  unfolding Runs placesIn
+  few names [] place w = omega arith
+  few names (r ∷ rs) place w = go (ltb (r .start) sets) refl rs (w .1) (few names rs (r .end) (w .1))
+    where
+      go : (t : Bool) → ltb (r .start) sets ≡ t → (rs : List Run) → Runs sets names (r .end) rs → length rs ≤ placesIn rs + 1
+          → length (r ∷ rs) ≤ ((r .end - r .start) + placesIn rs) + 1
+      go true t rs v e = let a = w .0 .filled (ltb-true _ _ t) in omega arith
+      go false t [] v e = omega arith
+      go false t (q ∷ rs) v e =
+          let a = ltb-false (r .start) sets t in
+          let b = w .0 .upward in
+          let c = v .0 .onward in
+          let d = v .0 .within in
+          absurd (omega arith)
 
 pub bounds : Bounds
 bounds = record {
-  page = page-names;
-  some = λ sets names pos. some-runs sets pos names sets 0 (omega arith);
-  one = λ sets r rs pos w.
-      let a = runs-tallied sets (One r) (comes sets pos r) (comes-to sets pos r) rs 0 w in
-      let b = comes-few sets pos r in
-      let z : sets - 0 ≡ sets = omega arith in
-      let a′ = rw z at a in
-      omega arith;
-  two = λ sets r q rs pos w.
-      let t : ℕ → Bool = λ p. comes sets pos r p || comes sets pos q p in
-      let a = runs-tallied sets (Two r q) t (λ p h f. of-either sets r q p (t p ≡ true) (λ g. or-left _ _ (comes-to sets pos r p h g)) (λ g. or-right (comes sets pos r p) _ (comes-to sets pos q p h g)) f) rs 0 w in
-      let b = tally-either (comes sets pos r) (comes sets pos q) sets 0 in
-      let c = comes-few sets pos r in
-      let d = comes-few sets pos q in
-      let z : sets - 0 ≡ sets = omega arith in
-      let a′ = rw z at a in
-      omega arith;
-  all = λ sets names rs w.
-      let a = runs-tallied sets names (λ p. true) (λ p h f. refl) rs 0 w in
-      let b = tally-most (λ p. true) (sets - 0) 0 in
-      omega arith;
+  some = λ sets names. some-runs sets names sets 0 (omega arith);
+  one = one;
+  two = two;
+  most = most;
+  all = λ sets rs w. all sets rs 0 (omega arith) w ∙ omega arith;
+  few = λ sets names rs w. few sets names rs 0 w;
 }

@@ -8,7 +8,7 @@ use lib.Dec.{leb, ltb}
 use borrow.Author.Tests.{ltb-true, ltb-false, leb-true, leb-false}
 use Rattle.board.proofs.Bools.{clash, or-left, or-right}
 use Rattle.ranges.specs.Ranges.{inRange, named}
-use Rattle.ranges.specs.Places.{PlaceOf, Inside, NextRun}
+use Rattle.ranges.specs.Places.{HasPlace, NextRun}
 use Rattle.ranges.specs.declared.Range.{Range}
 use Rattle.ranges.specs.declared.Names.{Names}
 use Rattle.ranges.specs.declared.Names.the-variants.{One, Two, All}
@@ -50,6 +50,20 @@ module _ (room names t : ℕ) where
   taken-is : t ≡ cond (ltb names room) names room → (t ≤ names) × (t ≤ room) × (0 < names → 0 < room → 0 < t)
   taken-is e = taken-by (ltb names room) refl e
 
+-- ---- no run
+
+run-none : (sets : ℕ) (names : Names) (place : ℕ) (x : Run) → x .start ≡ sets → x .end ≡ sets → place < sets
+    → ((q : ℕ) → place ≤ q → q < sets → HasPlace sets names q → ⊥) → NextRun sets names place x
+run-none sets names place x s e h none = record {
+  from = omega arith;
+  upward = omega arith;
+  onward = omega arith;
+  within = omega arith;
+  filled = λ a. absurd (omega arith);
+  passed = λ q a b. none q a (omega arith);
+  inside = λ q a b. absurd (omega arith);
+}
+
 -- ---- the next run of one range
 
 module _ (sets : ℕ) (r : Range) (place before : ℕ) (low : before < sets) (there : (r .first + before) % sets ≡ place) (h : place < sets) where
@@ -57,7 +71,7 @@ module _ (sets : ℕ) (r : Range) (place before : ℕ) (low : before < sets) (th
   rounds = let a = div-add-mod' (r .first + before) sets in rw there at a
 
   -- the name at a place of the run that a name of the range starts
-  at-place : (start k q : ℕ) → (r .first + k) ≡ (r .first + k) / sets * sets + start → start ≤ q → q < sets → k + (q - start) < r .count → PlaceOf sets (One r) q
+  at-place : (start k q : ℕ) → (r .first + k) ≡ (r .first + k) / sets * sets + start → start ≤ q → q < sets → k + (q - start) < r .count → HasPlace sets (One r) q
   unfolding named
   at-place start k q e a b c = record {
     name = r .first + (k + (q - start));
@@ -74,12 +88,13 @@ module _ (sets : ℕ) (r : Range) (place before : ℕ) (low : before < sets) (th
         upward = omega arith;
         onward = let z = a .2 (omega arith) (omega arith) in omega arith;
         within = omega (arith, a .1);
+        filled = λ x. let z = a .2 (omega arith) (omega arith) in omega arith;
         passed = λ q x y z. omega arith;
         inside = λ q x y. at-place place before q (sym rounds) x (omega (arith, a .1)) (omega (arith, a .0));
       }
 
   -- where the range is over, no place of it comes before its first name's
-  over : r .count ≤ before → (q : ℕ) → place ≤ q → q < place + (sets - before) → PlaceOf sets (One r) q → ⊥
+  over : r .count ≤ before → (q : ℕ) → place ≤ q → q < place + (sets - before) → HasPlace sets (One r) q → ⊥
   unfolding named
   over c q a b f =
       let x = in-least r (f .name) (f .is-named) in
@@ -90,7 +105,7 @@ module _ (sets : ℕ) (r : Range) (place before : ℕ) (low : before < sets) (th
       absurd (omega (arith, rounds))
 
   -- a place of the range has as many names of it before
-  pub reached : PlaceOf sets (One r) place → before < r .count
+  pub reached : HasPlace sets (One r) place → before < r .count
   reached f = go (ltb before (r .count)) refl
     where
       go : (t : Bool) → ltb before (r .count) ≡ t → before < r .count
@@ -98,8 +113,9 @@ module _ (sets : ℕ) (r : Range) (place before : ℕ) (low : before < sets) (th
       go false t = absurd (over (ltb-false _ _ t) place (omega arith) (omega arith) f)
 
   module _ (c : r .count ≤ before) where
+    -- the range comes, from its first name on
     module _ (start : ℕ) (s : start ≡ place + (sets - before)) (b : place < before) where
-      at-first : (q : ℕ) → start ≤ q → q < sets → q - start < r .count → PlaceOf sets (One r) q
+      at-first : (q : ℕ) → start ≤ q → q < sets → q - start < r .count → HasPlace sets (One r) q
       unfolding named
       at-first q x y z = record {
         name = r .first + (q - start);
@@ -107,41 +123,43 @@ module _ (sets : ℕ) (r : Range) (place before : ℕ) (low : before < sets) (th
         is-there = sym (add-mod-left sets (r .first + (q - start))) ∙ rest-is sets ((r .first + before) / sets) _ q (omega (arith, rounds)) y;
       }
 
-      pub run-first : (t : ℕ) → t ≡ cond (ltb (r .count) (sets - start)) (r .count) (sets - start)
+      pub run-first : (t : ℕ) → t ≡ cond (ltb (r .count) (sets - start)) (r .count) (sets - start) → (r .count ≡ 0 → ⊥)
           → NextRun sets (One r) place (record { start = start; end = start + t })
-      run-first t e =
+      run-first t e n =
           let a = taken-is (sets - start) (r .count) t e in
+          let z = a .2 (omega arith) (omega arith) in
           record {
             from = omega arith;
             upward = omega arith;
             onward = omega arith;
             within = omega (arith, a .1);
+            filled = λ x. omega arith;
             passed = λ q x y. over c q x (omega arith);
             inside = λ q x y. at-first q x (omega (arith, a .1)) (omega (arith, a .0));
           }
 
-    pub run-none : before ≤ place → NextRun sets (One r) place (record { start = sets; end = sets })
-    run-none b = record {
-      from = omega arith;
-      upward = omega arith;
-      onward = h;
-      within = omega arith;
-      passed = λ q x y. over c q x (omega arith);
-      inside = λ q x y. absurd (omega arith);
-    }
+    -- the range has gone by
+    pub run-over : before ≤ place → (x : Run) → (x .start ≡ sets) × (x .end ≡ sets) → NextRun sets (One r) place x
+    run-over b x e = run-none sets (One r) place x (e .0) (e .1) h (λ q y z. over c q y (omega arith))
+
+-- a range with no names
+pub run-nameless : (sets : ℕ) (r : Range) (place : ℕ) (x : Run) → (x .start ≡ sets) × (x .end ≡ sets) → place < sets → r .count ≡ 0 → NextRun sets (One r) place x
+unfolding named
+run-nameless sets r place x e h n =
+    run-none sets (One r) place x (e .0) (e .1) h (λ q y z f. let a = in-least r (f .name) (f .is-named) in let b = in-most r (f .name) (f .is-named) in omega arith)
 
 -- ---- two ranges, and all names
 
 module _ (sets : ℕ) (r q : Range) (p : ℕ) where
-  of-left : PlaceOf sets (One r) p → PlaceOf sets (Two r q) p
+  of-left : HasPlace sets (One r) p → HasPlace sets (Two r q) p
   unfolding named
   of-left f = record { name = f .name; is-named = or-left (inRange r (f .name)) _ (f .is-named); is-there = f .is-there }
 
-  of-right : PlaceOf sets (One q) p → PlaceOf sets (Two r q) p
+  of-right : HasPlace sets (One q) p → HasPlace sets (Two r q) p
   unfolding named
   of-right f = record { name = f .name; is-named = or-right (inRange r (f .name)) _ (f .is-named); is-there = f .is-there }
 
-  pub of-either : (A : Type 0) → (PlaceOf sets (One r) p → A) → (PlaceOf sets (One q) p → A) → PlaceOf sets (Two r q) p → A
+  pub of-either : (A : Type 0) → (HasPlace sets (One r) p → A) → (HasPlace sets (One q) p → A) → HasPlace sets (Two r q) p → A
   unfolding named
   of-either A a b f = go (inRange r (f .name)) (inRange q (f .name)) refl refl (f .is-named)
     where
@@ -160,6 +178,7 @@ module _ (sets place : ℕ) (names : Names) (r q : Range) (k : names ≡ Two r q
         upward = f .upward;
         onward = f .onward;
         within = f .within;
+        filled = f .filled;
         passed = λ p y w. of-either sets r q p ⊥ (f .passed p y w) (g .passed p y (omega arith));
         inside = λ p y w. of-left sets r q p (f .inside p y w);
       })
@@ -168,6 +187,7 @@ module _ (sets place : ℕ) (names : Names) (r q : Range) (k : names ≡ Two r q
         upward = g .upward;
         onward = g .onward;
         within = g .within;
+        filled = g .filled;
         passed = λ p y w. of-either sets r q p ⊥ (f .passed p y (omega arith)) (g .passed p y w);
         inside = λ p y w. of-right sets r q p (g .inside p y w);
       })
@@ -182,6 +202,7 @@ run-all sets place names k h = rw k (record {
   upward = omega arith;
   onward = h;
   within = omega arith;
+  filled = λ a. h;
   passed = λ q a b. absurd (omega arith);
   inside = λ q a b. record { name = q; is-named = refl; is-there = mod-eq-of-lt b };
 })

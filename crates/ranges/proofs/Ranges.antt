@@ -1,12 +1,12 @@
 -- Names in ranges, and the range of a page.
-use Prim.Native.Nat.{ℕ, _+_, _*_, _-_, _/_, _≤_, _<_}
-use mathlib.Core.Path.{_≡_, _∙_, refl, sym}
+use Prim.Native.Nat.{ℕ, _+_, _-_, _/_, _≤_, _<_}
+use mathlib.Core.Path.{_≡_, refl, sym}
 use mathlib.Core.Bool.{Bool, true, false, _||_}
 use native.Mathlib.Omega.{arith}
 use lib.Dec.{leb, ltb, eqb}
 use borrow.Author.Tests.{ltb-true, ltb-false, leb-true, lt-ltb, le-ltb, le-leb, lt-leb, eqb-true, eqb-false}
 use Rattle.board.proofs.Bools.{and-left, and-right}
-use Rattle.ranges.specs.Ranges.{inRange, named, pageNames}
+use Rattle.ranges.specs.Ranges.{inRange, named, pageNames, PageNames}
 use Rattle.ranges.specs.declared.Range.{Range}
 use Rattle.ranges.specs.declared.Names.{Names}
 use Rattle.ranges.specs.declared.Names.the-variants.{One, Two, All}
@@ -50,7 +50,6 @@ pub named-all : (names : Names) (name : ℕ) → names ≡ All → true ≡ name
 unfolding named
 named-all names name k = rw k
 
--- the names of a page are those whose page it is
 module _ (page name : ℕ) where
   page-out : (name / 256 ≡ page → ⊥) → (t : Bool) → inRange (pageNames page) name ≡ t → t ≡ false
   page-out n true k = absurd (n (omega (arith, in-least (pageNames page) name k, in-most (pageNames page) name k)))
@@ -60,5 +59,5 @@ module _ (page name : ℕ) where
   page-in true e = let a : name / 256 ≡ page = eqb-true _ _ e in in-between (pageNames page) name (omega arith) (omega arith)
   page-in false e = page-out (eqb-false (name / 256) page e) _ refl
 
-  pub page-names : inRange (pageNames page) name ≡ eqb (name / 256) page
-  page-names = page-in _ refl
+pub page-names : PageNames
+page-names page name = page-in page name _ refl

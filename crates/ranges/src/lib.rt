@@ -32,7 +32,7 @@ pub struct Run {
 }
 
 // The first page under prefix 1.
-const DIRECT_PAGES: u64 = 1048576;
+const FIRST_DIRECT_PAGE: u64 = 1048576;
 
 // The names in a page.
 pub fn page_names(page: u64) -> Range
@@ -50,7 +50,7 @@ pub fn direct_names(frame: usize) -> Range
     requires { ⌜ frame < maxFrames ⌝ }
     ensures { λ r. ⌜ r ≡ pageNames (directPage frame) ⌝ }
 {
-    page_names(DIRECT_PAGES + frame as u64)
+    page_names(FIRST_DIRECT_PAGE + frame as u64)
 }
 
 // The name is one of a range.
@@ -74,7 +74,7 @@ pub fn is_named(names: Names, name: u64) -> bool
     }
 }
 
-// How many names after the first of a range the first one comes whose place is `place`.
+// How many names to pass, from `first` on, to reach the first whose place is `place`.
 fn names_to(sets: usize, first: u64, place: usize) -> usize
     requires { ⌜ (ones sets ≡ 1) × (sets ≤ maxLines) × (place < sets) ⌝ }
     ensures { λ r. ⌜ (r < sets) × ((first + r) % sets ≡ place) ⌝ }
@@ -86,7 +86,7 @@ fn names_to(sets: usize, first: u64, place: usize) -> usize
     place + (sets - start)
 }
 
-// How many places of `room` a number of names can take.
+// How many of `room` places so many names fill: the smaller of the two.
 fn taken(room: usize, names: u64) -> usize
     ensures { λ r. ⌜ (r ≡ cond (ltb names room) names room) × (r ≤ room) ⌝ }
 {
@@ -96,11 +96,24 @@ fn taken(room: usize, names: u64) -> usize
     room
 }
 
+// No places: the run at the end.
+fn none(sets: usize) -> Run
+    ensures { λ r. ⌜ (r .start ≡ sets) × (r .end ≡ sets) ⌝ }
+{
+    Run {
+        start: sets,
+        end: sets,
+    }
+}
+
 // The first run of places of a range's names, from `place` on.
 fn range_run(sets: usize, r: Range, place: usize) -> Run
     requires { ⌜ (ones sets ≡ 1) × (sets ≤ maxLines) × (place < sets) ⌝ }
     ensures { λ run. ⌜ NextRun sets (One r) place run ⌝ }
 {
+    if r.count == 0 {
+        return none(sets);
+    }
     let before = names_to(sets, r.first, place);
     if (before as u64) < r.count {
         return Run {
@@ -115,13 +128,10 @@ fn range_run(sets: usize, r: Range, place: usize) -> Run
             end: start + taken(sets - start, r.count),
         };
     }
-    Run {
-        start: sets,
-        end: sets,
-    }
+    none(sets)
 }
 
-// The run that starts first.
+// The run that starts first; of equals, `a`.
 fn earlier(a: Run, b: Run) -> Run
     ensures { λ r. ⌜ r ≡ cond (leb (a .start) (b .start)) a b ⌝ }
 {

@@ -9,8 +9,7 @@ use Rattle.board.specs.declared.Shape.{Shape}
 use Rattle.line_bytes.specs.Bytes.{lineOf, withLine}
 use Rattle.lines.specs.Records.{noLine, permittedLine}
 use Rattle.lines.specs.Holds.{holdsLine}
-use Rattle.ranges.specs.Ranges.{named, pageNames}
-use Rattle.ranges.specs.declared.Names.the-variants.{One}
+use Rattle.ranges.specs.Ranges.{named}
 use Rattle.ranges.proofs.Ranges.{page-names}
 use Rattle.visits.specs.Visits.{protectVisit, flushVisit}
 use Rattle.lines.specs.declared.Line.{Line}

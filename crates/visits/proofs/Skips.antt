@@ -1,20 +1,18 @@
 -- Only the records at the places of a visit's names can change: the visit of all records is the visit of those.
 -- Stated over the number of lines in a set, `ways`: each place has that many records.
-use Prim.Native.Nat.{ℕ, zero, suc, _+_, _*_, _-_, _/_, _%_, _≤_, _<_}
+use Prim.Native.Nat.{ℕ, zero, suc, _+_, _*_, _-_, _/_, _≤_, _<_}
 use mathlib.Core.Path.{_≡_, _∙_, refl, sym}
 use mathlib.Core.Bool.{Bool, true, false, _&&_, cond}
 use mathlib.Core.List.{List, [], _∷_}
 use native.Mathlib.Nat.{div-lt-iff-lt-mul, le-div-iff-mul-le, div-mul-le-self, mul-le-mul-right, div-one, mul-one, sub-zero, zero-mul, mod-lt, mul-sub, mul-comm}
 use native.Mathlib.Omega.{arith}
-use lib.Dec.{eqb}
 use borrow.Author.Tests.{eqb-true}
 use Rattle.board.specs.declared.Shape.{Shape}
 use Rattle.board.proofs.Bools.{and-left, and-right}
 use Rattle.lines.specs.Records.{lineAt}
 use Rattle.lines.specs.Holds.{holdsLine, holdsAt}
 use Rattle.stores.specs.Stores.{Store}
-use Rattle.ranges.specs.Ranges.{named}
-use Rattle.ranges.specs.Places.{PlaceOf, NextRun}
+use Rattle.ranges.specs.Places.{HasPlace, NextRun}
 use Rattle.ranges.specs.Bounds.{Runs}
 use Rattle.ranges.specs.declared.Run.{Run}
 use Rattle.visits.specs.Visits.{selects, treated, visited, sweep, visitedAll}
@@ -61,7 +59,7 @@ module _ (ways : ℕ) (s : Shape) (v : Visit) where
   sets = s .lines / ways
 
   -- a record whose place is that of none of the names is left as it is
-  pub visited-left : (i : ℕ) (b : Store) → (PlaceOf sets (v .names) (i / ways) → ⊥) → visited ways s v i b ≡ b
+  pub visited-left : (i : ℕ) (b : Store) → (HasPlace sets (v .names) (i / ways) → ⊥) → visited ways s v i b ≡ b
   unfolding visited holdsAt holdsLine
   visited-left i b none = go (holdsLine ways s i (lineAt (b .records) i)) (selects v (lineAt (b .records) i)) refl refl
     where

@@ -18,25 +18,27 @@ use Rattle.visits.specs.declared.Visit.{Visit}
 abbrev pub visit : Deed → Names → Visit
 visit d names = record { deed = d; names = names }
 
--- map drops the lines named in the page or in the frame's prefix 1 range; unmap writes back if changed, and drops, those named in the page;
--- protect gives those the permission; flush all writes back if changed, and drops, all lines
+-- map: the lines named in the page or in the frame's prefix 1 range are dropped
 abbrev pub mapVisit : ℕ → ℕ → Visit
 mapVisit page frame = visit Drop (Two (pageNames page) (pageNames (directPage frame)))
 
+-- unmap: those named in the page are written back if changed, and dropped
 abbrev pub unmapVisit : ℕ → Visit
 unmapVisit page = visit Retire (One (pageNames page))
 
+-- protect: those named in the page get the permission
 abbrev pub protectVisit : ℕ → Bool → Visit
 protectVisit page write = visit (Permit write) (One (pageNames page))
 
+-- flush all: all lines are written back if changed, and dropped
 abbrev pub flushVisit : Visit
 flushVisit = visit Retire All
 
--- a visit is for this line
+-- a visit is for this line: its name is one of the visit's
 abbrev pub selects : Visit → Line → Bool
 selects v l = named (v .names) (l .name)
 
--- what is done to the line of record i
+-- what is done to the line of record i: dropped; written back if changed, and dropped; or given the permission
 unfoldable pub treated : ℕ → Shape → Deed → ℕ → Store → Store
 treated ways s Drop i b = dropped i b
 treated ways s Retire i b = dropped i (writtenBack ways s i b)
@@ -47,11 +49,11 @@ unfoldable pub visited : ℕ → Shape → Visit → ℕ → Store → Store
 visited ways s v i b =
     cond (holdsAt ways s (b .records) i && selects v (lineAt (b .records) i)) (treated ways s (v .deed) i b) b
 
--- n records from i on, by rising place
+-- what f does, done to the n records from i on, one after the other
 unfoldable pub sweep : (ℕ → Store → Store) → ℕ → ℕ → Store → Store
 sweep f zero i b = b
 sweep f (suc n) i b = sweep f n (suc i) (f i b)
 
--- every record visited
+-- every record visited, by rising place
 unfoldable pub visitedAll : ℕ → Shape → Visit → Store → Store
 visitedAll ways s v b = sweep (visited ways s v) (s .lines) 0 b

@@ -7,7 +7,7 @@ ghost use Rattle.board.specs.Shapes.{maxFrames};
 ghost use Rattle.stores.specs.Premises.{Sized};
 ghost use Rattle.stores.specs.Lent.{storeBefore, storeAfter};
 ghost use Rattle.ranges.specs.Ranges.{pageNames};
-ghost use Rattle.ranges.specs.Places.{Inside};
+ghost use Rattle.ranges.specs.Places.{HasPlace, Inside};
 ghost use Rattle.ranges.specs.declared.Names.the-variants.{One};
 ghost use Rattle.visits.specs.Visits.{visit, mapVisit, unmapVisit, protectVisit, flushVisit, treated, visited, sweep, visitedAll};
 use board::Shape;
@@ -40,7 +40,7 @@ pub fn of_map(page: u64, frame: usize) -> Visit
     }
 }
 
-// What is done to the lines named in a page.
+// A deed, to the lines named in a page.
 fn of_page(deed: Deed, page: u64) -> Visit
     requires { ⌜ page < pageEnd ⌝ }
     ensures { λ v. ⌜ v ≡ visit deed (One (pageNames page)) ⌝ }
@@ -52,7 +52,7 @@ fn of_page(deed: Deed, page: u64) -> Visit
     }
 }
 
-// Unmap writes them back if they are changed, and drops them.
+// Unmap writes back the page's changed lines and drops all of them.
 pub fn of_unmap(page: u64) -> Visit
     requires { ⌜ page < pageEnd ⌝ }
     ensures { λ v. ⌜ v ≡ unmapVisit page ⌝ }
@@ -60,7 +60,7 @@ pub fn of_unmap(page: u64) -> Visit
     of_page(Deed::Retire, page)
 }
 
-// Protect gives them the permission.
+// Protect gives the page's lines the permission.
 pub fn of_protect(page: u64, write: bool) -> Visit
     requires { ⌜ page < pageEnd ⌝ }
     ensures { λ v. ⌜ v ≡ protectVisit page write ⌝ }
@@ -68,7 +68,7 @@ pub fn of_protect(page: u64, write: bool) -> Visit
     of_page(Deed::Permit(write), page)
 }
 
-// Flush all writes back, if they are changed, and drops all lines.
+// Flush all writes back every changed line and drops all.
 pub fn of_flush() -> Visit
     ensures { λ v. ⌜ v ≡ flushVisit ⌝ }
 {
@@ -78,7 +78,7 @@ pub fn of_flush() -> Visit
     }
 }
 
-// Does it to the line of record `i`.
+// Does the deed to the line of record `i`.
 fn treat(s: Shape, records: &mut [u64], cache: &[u8], memory: &mut [u8], i: usize, d: Deed)
     requires { ⌜ Sized s (now records) (now cache) (now memory) × (i < s .lines) ⌝ }
     ensures { λ _. ⌜ storeAfter records cache memory ≡ treated 1 s d i (storeBefore records cache memory) ⌝ }
@@ -97,9 +97,9 @@ fn treat(s: Shape, records: &mut [u64], cache: &[u8], memory: &mut [u8], i: usiz
     }
 }
 
-// Visits record `i`: only a held line of the names changes.
+// Visits record `i`, whose place is one of the names' (asked so that no other record is visited): only a held line of theirs changes.
 fn visit_line(s: Shape, records: &mut [u64], cache: &[u8], memory: &mut [u8], i: usize, v: Visit)
-    requires { ⌜ Sized s (now records) (now cache) (now memory) × (i < s .lines) ⌝ }
+    requires { ⌜ Sized s (now records) (now cache) (now memory) × (i < s .lines) × HasPlace (s .lines) (v .names) i ⌝ }
     ensures { λ _. ⌜ storeAfter records cache memory ≡ visited 1 s v i (storeBefore records cache memory) ⌝ }
 {
     let l = lines::line_at(records, i);
@@ -112,7 +112,7 @@ fn visit_line(s: Shape, records: &mut [u64], cache: &[u8], memory: &mut [u8], i:
     }
 }
 
-// Visits the records of a run of places, which are places of the names.
+// Visits the records of a run of places of the names.
 fn visit_run(s: Shape, records: &mut [u64], cache: &[u8], memory: &mut [u8], v: Visit, run: Run)
     requires { ⌜ Sized s (now records) (now cache) (now memory) × (run .end ≤ s .lines) × Inside (s .lines) (v .names) run ⌝ }
     ensures { λ _. ⌜ storeAfter records cache memory ≡ sweep (visited 1 s v) (run .end - run .start) (run .start) (storeBefore records cache memory) ⌝ }

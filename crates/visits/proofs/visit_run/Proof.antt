@@ -1,5 +1,5 @@
 -- `visit_run` visits record by record: the sweep from `i` on is the whole.
-use Prim.Native.Nat.{_-_}
+use Prim.Native.Nat.{_-_, _≤_}
 use mathlib.Core.Path.{_≡_, _∙_, sym, refl}
 use lib.ListN.{length}
 use Rattle.visits.specs.Visits.{visited, sweep}
@@ -13,7 +13,7 @@ use Rattle.visits.proofs.visit_run.Tie as tie
 
 abbrev Inv-loop : tie.InvT-loop
 Inv-loop s records₀ cache memory₀ v end i₀ records memory i =
-    Sized s records cache memory × (length records ≡ length records₀) × (length memory ≡ length memory₀)
+    Sized s records cache memory × (i₀ ≤ i) × (length records ≡ length records₀) × (length memory ≡ length memory₀)
     × (sweep (visited 1 s v) (end - i₀) i₀ (store records₀ cache memory₀) ≡ sweep (visited 1 s v) (end - i) i (store records cache memory))
 
 abbrev μ-loop : tie.MeasureT-loop
@@ -23,8 +23,9 @@ pub visit-run-spec : {M : Type 1} → statement M
 visit-run-spec =
     tie.close (tie.spec
     Inv-loop μ-loop
-    (λ c. (c .before .before .before .pre .0, refl, refl, refl))
-    (search needs) (search needs) (search needs)
-    (λ c. (search (needs, sized-kept), search needs, search needs, c .before .before .before .before .before .before .before .before .loop .inv .3 ∙ search (needs, sweep-more)))
+    (λ c. (c .before .before .before .pre .0, search needs, refl, refl, refl))
+    (λ c κs. let w = c .before .before .before in (search needs, search needs, w .before .before .before .before .pre .2 (w .loop .i) (w .loop .inv .1) (c .before .before .loop-test .taken)))
     (search needs) (search needs)
-    (λ c. sym (c .before .loop .inv .3 ∙ search (needs, sweep-end))))
+    (λ c. (search (needs, sized-kept), search needs, search needs, search needs, c .before .before .before .before .before .before .before .before .loop .inv .4 ∙ search (needs, sweep-more)))
+    (search needs) (search needs)
+    (λ c. sym (c .before .loop .inv .4 ∙ search (needs, sweep-end))))
