@@ -294,7 +294,8 @@ OALEDVA_MUST_USE oaledva_answer oaledva_detach(
 
 /* ---- pages
  * Maps an ordinary page (0x200000 to 0xFFBFFFFF) to a frame (from U up), which is filled with zeros. Held lines named in the
- * page or in the frame's prefix 1 range are dropped. Refused by 1, 2, 10 and 11. */
+ * page or in the frame's prefix 1 range are dropped: at most 512 records are visited, however many lines the cache has.
+ * Refused by 1, 2, 10 and 11. */
 OALEDVA_MUST_USE oaledva_answer oaledva_map(
     OALEDVA_SHAPE_ARGS,
     const uint32_t *slots, size_t slots_length,
@@ -304,7 +305,8 @@ OALEDVA_MUST_USE oaledva_answer oaledva_map(
     uint8_t *memory, size_t memory_length,
     uint64_t page, size_t frame, oaledva_permission permission);
 
-/* Unmaps a page: its changed lines are written back, its lines dropped, its frame freed. Refused by 1, 2 and 8. */
+/* Unmaps a page: its changed lines are written back, by rising place, its lines dropped, its frame freed. At most 256
+ * records are visited. Refused by 1, 2 and 8. */
 OALEDVA_MUST_USE oaledva_answer oaledva_unmap(
     OALEDVA_SHAPE_ARGS,
     const uint32_t *slots, size_t slots_length,
@@ -314,7 +316,7 @@ OALEDVA_MUST_USE oaledva_answer oaledva_unmap(
     uint8_t *memory, size_t memory_length,
     uint64_t page);
 
-/* Changes the write bit of a page and of its held lines. Refused by 1, 2 and 8. */
+/* Changes the write bit of a page and of its held lines. At most 256 records are visited. Refused by 1, 2 and 8. */
 OALEDVA_MUST_USE oaledva_answer oaledva_protect(
     OALEDVA_SHAPE_ARGS,
     const uint32_t *slots, size_t slots_length,
@@ -324,7 +326,7 @@ OALEDVA_MUST_USE oaledva_answer oaledva_protect(
     uint8_t *memory, size_t memory_length,
     uint64_t page, oaledva_permission permission);
 
-/* Writes back every changed line and drops all lines. Refused by 1. */
+/* Writes back every changed line, by rising place, and drops all lines. Every record is visited. Refused by 1. */
 OALEDVA_MUST_USE oaledva_answer oaledva_flush_all(
     OALEDVA_SHAPE_ARGS,
     const uint32_t *slots, size_t slots_length,

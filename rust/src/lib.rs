@@ -227,25 +227,25 @@ where
         self.answer(answer).map(drop)
     }
 
-    /// Maps a page to a frame, which is filled with zeros.
+    /// Maps a page to a frame, which is filled with zeros. At most 512 of the cache's records are visited, however many it has.
     pub fn map(&mut self, page: u64, frame: usize, write: bool) -> Result<(), Refusal> {
         let answer = call!(self, as_mut_ptr, oaledva_map(page, frame, permission(write)));
         self.answer(answer).map(drop)
     }
 
-    /// Unmaps a page: its changed lines are written back, its lines dropped, its frame freed.
+    /// Unmaps a page: its changed lines are written back, its lines dropped, its frame freed. At most 256 records are visited.
     pub fn unmap(&mut self, page: u64) -> Result<(), Refusal> {
         let answer = call!(self, as_mut_ptr, oaledva_unmap(page));
         self.answer(answer).map(drop)
     }
 
-    /// Changes the write bit of a page and of its held lines.
+    /// Changes the write bit of a page and of its held lines. At most 256 records are visited.
     pub fn protect(&mut self, page: u64, write: bool) -> Result<(), Refusal> {
         let answer = call!(self, as_mut_ptr, oaledva_protect(page, permission(write)));
         self.answer(answer).map(drop)
     }
 
-    /// Writes back every changed line and drops all lines.
+    /// Writes back every changed line and drops all lines. Every record is visited.
     pub fn flush_all(&mut self) -> Result<(), Refusal> {
         let answer = call!(self, as_mut_ptr, oaledva_flush_all());
         self.answer(answer).map(drop)
