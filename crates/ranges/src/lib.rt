@@ -2,13 +2,12 @@
 ghost use mathlib.Core.Path.{_≡_};
 ghost use Prim.Native.Nat.{_+_, _%_, _≤_, _<_};
 ghost use mathlib.Core.Bool.{cond};
-ghost use lib.Count.{ones};
 ghost use lib.Dec.{leb, ltb};
 ghost use Rattle.address.specs.Layout.{pageEnd};
 ghost use Rattle.pages.specs.Pages.{directPage};
-ghost use Rattle.board.specs.Shapes.{maxFrames, maxLines};
+ghost use Rattle.board.specs.Shapes.{maxFrames};
 ghost use Rattle.ranges.specs.Ranges.{inRange, named, pageNames};
-ghost use Rattle.ranges.specs.Places.{NextRun};
+ghost use Rattle.ranges.specs.Places.{IsPlace, NextRun};
 ghost use Rattle.ranges.specs.declared.Names.the-variants.{One};
 use address::PAGE_NAMES;
 
@@ -76,7 +75,7 @@ pub fn is_named(names: Names, name: u64) -> bool
 
 // How many names to pass, from `first` on, to reach the first whose place is `place`.
 fn names_to(sets: usize, first: u64, place: usize) -> usize
-    requires { ⌜ (ones sets ≡ 1) × (sets ≤ maxLines) × (place < sets) ⌝ }
+    requires { ⌜ IsPlace sets place ⌝ }
     ensures { λ r. ⌜ (r < sets) × ((first + r) % sets ≡ place) ⌝ }
 {
     let start = lines::place_of(sets, first);
@@ -108,19 +107,21 @@ fn none(sets: usize) -> Run
 
 // The first run of places of a range's names, from `place` on.
 fn range_run(sets: usize, r: Range, place: usize) -> Run
-    requires { ⌜ (ones sets ≡ 1) × (sets ≤ maxLines) × (place < sets) ⌝ }
+    requires { ⌜ IsPlace sets place ⌝ }
     ensures { λ run. ⌜ NextRun sets (One r) place run ⌝ }
 {
     if r.count == 0 {
         return none(sets);
     }
     let before = names_to(sets, r.first, place);
+    // the range reaches this place
     if (before as u64) < r.count {
         return Run {
             start: place,
             end: place + taken(sets - place, r.count - before as u64),
         };
     }
+    // it begins further on
     if place < before {
         let start = place + (sets - before);
         return Run {
@@ -143,7 +144,7 @@ fn earlier(a: Run, b: Run) -> Run
 
 // The first run of places of these names, from `place` on.
 pub fn next_run(sets: usize, names: Names, place: usize) -> Run
-    requires { ⌜ (ones sets ≡ 1) × (sets ≤ maxLines) × (place < sets) ⌝ }
+    requires { ⌜ IsPlace sets place ⌝ }
     ensures { λ run. ⌜ NextRun sets names place run ⌝ }
 {
     match names {
