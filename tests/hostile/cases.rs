@@ -8,6 +8,7 @@
 
 use crate::limits::*;
 use crate::routes::{Manner, Route};
+use crate::sights::inside;
 use crate::values::Access;
 use model::{
     frame_of, global_of, kind_of, mapping, name_in_range, name_of, offset_of, page_of_name, place_of, slot_of,
@@ -190,17 +191,16 @@ impl Line {
     fn of(board: &Board, name: u64) -> Line {
         let place = place_of(name, board.shape.lines);
         let (record, holds) = (board.record(place), board.held(place).is_some());
-        let bytes_of = |line: u64| (line * LINE_BYTES) as usize..((line + 1) * LINE_BYTES) as usize;
         Line {
             name,
             kind: kind_of(name.wrapping_mul(LINE_BYTES) % GLOBAL_END),
             record,
             placed: place_of(record.name, board.shape.lines) == place,
-            inside: record.line < LINES_PER_PAGE * board.shape.frames,
+            inside: inside(board, record.line),
             holds,
-            equal: holds && board.cache[bytes_of(place)] == board.memory[bytes_of(record.line)],
+            equal: holds && board.cache[line_bytes(place)] == board.memory[line_bytes(record.line)],
             mapped: mapping(&board.shape, &board.words, page_of_name(name))
-                .map(|(frame, write)| (frame * LINES_PER_PAGE + name % LINES_PER_PAGE, write)),
+                .map(|(frame, write)| (line_in(frame, name), write)),
         }
     }
 

@@ -1,10 +1,12 @@
 //! What was reached: each refusal number of each call, each case, each route of each call, each mark of each call by each route,
-//! each call at the limits of P and L, each value at the end of a width beside each number; and what must be.
+//! each call at the limits of P and L, each value at the end of a width beside each number, each sight at a page's places; and
+//! what must be.
 
 use crate::cases::{Case, Reach, CASES};
 use crate::limits::{ENTRY_PAGES, LINES_MAX, MARKS, PROCESSES_MAX, VALUES, WIDTHS};
 use crate::marks::{self, MARKED, OUTCOMES};
 use crate::routes::{Route, ROUTES};
+use crate::sights::{Sight, Size, Sweep, SIGHTS, SIZES, SWEEPS};
 use crate::trace::Deed;
 use crate::values::{Tried, ROWS};
 use model::Call;
@@ -78,6 +80,8 @@ pub enum Planned {
     Edge(usize),
     /// Of `values.rs`.
     Values,
+    /// Of `places.rs`.
+    Places,
 }
 
 /// Whether this call may give this number.
@@ -98,6 +102,8 @@ struct Counts {
     edges: [[[u64; ENTRIES]; ROUTES.len()]; EDGES.len()],
     /// The accesses of `ROWS` by each route, with each of `WIDTHS` and `VALUES`, that gave the number they must.
     values: [[[[u64; VALUES.len()]; WIDTHS.len()]; ROWS.len()]; ROUTES.len()],
+    /// The sweeps by each route, with each of `SIZES`, that met each of `SIGHTS`.
+    sights: [[[[u64; SIGHTS.len()]; SIZES.len()]; SWEEPS.len()]; ROUTES.len()],
 }
 
 const NONE: Counts = Counts {
@@ -107,6 +113,7 @@ const NONE: Counts = Counts {
     marks: [[[0; OUTCOMES.len()]; MARKED.len()]; ROUTES.len()],
     edges: [[[0; ENTRIES]; ROUTES.len()]; EDGES.len()],
     values: [[[[0; VALUES.len()]; WIDTHS.len()]; ROWS.len()]; ROUTES.len()],
+    sights: [[[[0; SIGHTS.len()]; SIZES.len()]; SWEEPS.len()]; ROUTES.len()],
 };
 
 #[derive(Clone)]
@@ -150,6 +157,16 @@ impl Coverage {
         counts.values[route as usize][row][width][value] += 1;
     }
 
+    /// What a call met that was done on a board of so many lines, in whatever run.
+    pub fn count_sights(&mut self, fresh: bool, route: Route, lines: u64, met: &[(Sweep, Vec<Sight>)]) {
+        let counts = if fresh { &mut self.fresh } else { &mut self.wild };
+        for (sweep, sights) in met {
+            for &sight in sights {
+                counts.sights[route as usize][*sweep as usize][Size::of(lines) as usize][sight as usize] += 1;
+            }
+        }
+    }
+
     /// The mark of a call, as the random runs reach it.
     pub fn count_mark(&mut self, fresh: bool, route: Route, marks::Marked { row, outcome }: marks::Marked) {
         if self.planned.is_none() {
@@ -168,7 +185,7 @@ impl Coverage {
                 }
                 return;
             }
-            Some(Planned::Values) => return,
+            Some(Planned::Values | Planned::Places) => return,
             None => {}
         }
         if let Some(row) = row {
@@ -258,6 +275,18 @@ impl Coverage {
                     }
                 }
             }
+            for (counts, (_, route)) in counts.sights.iter_mut().zip(&ROUTES) {
+                for (counts, (sweep, call)) in counts.iter_mut().zip(SWEEPS) {
+                    for (counts, (size, lines)) in counts.iter_mut().zip(SIZES) {
+                        let met = counts.iter_mut().zip(SIGHTS);
+                        let required = met.filter(|(_, (_, _, at))| at.has(sweep, size, board == "fresh"));
+                        for (count, (_, words, _)) in required {
+                            let met = format_args!("{call}, {lines}: {words}");
+                            see(format_args!("{met}, by the {route} route, on a {board} board"), count);
+                        }
+                    }
+                }
+            }
         }
         for (row, (_, route)) in self.routes.iter_mut().zip(&ROUTES) {
             for (count, (call, _)) in row.iter_mut().zip(&KINDS) {
@@ -318,6 +347,12 @@ impl Coverage {
         writeln!(text, "\n  fresh   wild  events").expect(line);
         for (index, (_, _, words)) in CASES.iter().enumerate() {
             writeln!(text, "{:>7}{:>7}  {words}", self.fresh.cases[index], self.wild.cases[index]).expect(line);
+        }
+        writeln!(text, "\n  fresh   wild  at the places of a page").expect(line);
+        for (index, (_, words, _)) in SIGHTS.iter().enumerate() {
+            let met =
+                |counts: &Counts| counts.sights.iter().flatten().flatten().map(|counts| counts[index]).sum::<u64>();
+            writeln!(text, "{:>7}{:>7}  {words}", met(&self.fresh), met(&self.wild)).expect(line);
         }
         text
     }

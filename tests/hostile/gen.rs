@@ -1,7 +1,7 @@
 //! Random boards and calls. A board has a small world of segments, pages and lines, so that calls meet; calls are made with
 //! an eye on the board, so that most of them get far; one in ten has an argument that is out of its range.
 
-use crate::guarded::OFFSETS;
+use crate::guarded::STARTS;
 use crate::limits::*;
 use crate::rng::Rng;
 use crate::routes::{Manner, ROUTES};
@@ -67,14 +67,14 @@ pub fn shape(rng: &mut Rng) -> Shape {
     let processes = if rng.percent(2) { PROCESSES_MAX } else { 1 + rng.below(3) };
     let lines = match rng.below(1000) {
         0..=3 => LINES_MAX,
-        4..=29 => rng.pick(&[256, 512]),
+        4..=49 => rng.pick(&[32, 64, 128, 256, 512, 1024]),
         _ => 1 << rng.below(5),
     };
     Shape { frames, uncached, processes, lines }
 }
 
 pub fn offsets(rng: &mut Rng) -> [usize; 5] {
-    [0; 5].map(|_: usize| rng.below(OFFSETS as u64) as usize)
+    [0; 5].map(|_: usize| rng.below(STARTS as u64) as usize)
 }
 
 /// A fresh board: slots and words 0, no record valid, nothing pending. All else may be any bytes; records may have all of a
@@ -126,9 +126,8 @@ pub fn wild_board(rng: &mut Rng, shape: Shape) -> (Board, World) {
         board.words[frame] = wild_word(rng, &world);
     }
     for place in 0..board.shape.lines {
-        let (name, second) = wild_record(rng, &world, &board, place);
-        board.records[2 * place as usize] = name;
-        board.records[2 * place as usize + 1] = second;
+        let record = wild_record(rng, &world, &board, place);
+        put(&mut board, place, record);
     }
     board.tag = match rng.below(12) {
         0..=7 => NO_TAG,
@@ -137,6 +136,12 @@ pub fn wild_board(rng: &mut Rng, shape: Shape) -> (Board, World) {
         _ => (true, world.name(rng)),
     };
     (board, world)
+}
+
+/// Puts a record's two words at a place.
+pub fn put(board: &mut Board, place: u64, words: (u64, u64)) {
+    let at = 2 * place as usize;
+    (board.records[at], board.records[at + 1]) = words;
 }
 
 fn wild_slot(rng: &mut Rng, world: &World) -> u32 {
@@ -190,7 +195,7 @@ fn wild_record(rng: &mut Rng, world: &World, board: &Board, place: u64) -> (u64,
         // Few lines, so that two records have one.
         2..=5 => rng.below(frames) * LINES_PER_PAGE + rng.below(3),
         _ => match mapped {
-            Some((frame, _)) => frame * LINES_PER_PAGE + name % LINES_PER_PAGE,
+            Some((frame, _)) => line_in(frame, name),
             None => name % end,
         },
     };
@@ -439,7 +444,7 @@ fn map(rng: &mut Rng, world: &World, board: &Board) -> Call {
 fn load_and_map(rng: &mut Rng, world: &World, board: &Board) -> Call {
     let name = board.tag.1;
     let line = match frame_of_page(board, page_of_name(name)) {
-        Some(frame) if rng.percent(70) => frame * LINES_PER_PAGE + name % LINES_PER_PAGE,
+        Some(frame) if rng.percent(70) => line_in(frame, name),
         _ => physical_line(rng, world, board),
     };
     Call::LoadAndMap { line }

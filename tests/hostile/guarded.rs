@@ -1,12 +1,20 @@
-//! The caller's side of a board: each buffer between canaries, at a start that varies but keeps the elements' alignment.
+//! The caller's side of a board: each buffer between canaries, at a start that varies but keeps the elements' alignment; or with
+//! a fence on one side.
 
+use crate::fence::Fenced;
 use model::{Board, Shape};
+use std::ops::{Deref, DerefMut};
 
 /// At least this many bytes of canary stand on each side of a buffer.
 const GUARD_BYTES: usize = 64;
 
 /// A buffer may start this many elements later, less one: bytes at odd addresses, words at other than the allocator's.
-pub const OFFSETS: usize = 16;
+const OFFSETS: usize = 16;
+
+/// Or a fence stands right behind it, or right before it. That costs time, so most of the starts are none of these two.
+pub const FENCED_BEHIND: usize = OFFSETS;
+const FENCED_BEFORE: usize = OFFSETS + 1;
+pub const STARTS: usize = 6 * OFFSETS;
 
 pub trait Element: Copy + PartialEq + std::fmt::LowerHex {
     const ZERO: Self;
@@ -38,9 +46,35 @@ impl Element for u64 {
     }
 }
 
+/// The memory of a buffer.
+enum Store<T> {
+    Heap(Vec<T>),
+    Fenced(Fenced<T>),
+}
+
+impl<T> Deref for Store<T> {
+    type Target = [T];
+
+    fn deref(&self) -> &[T] {
+        match self {
+            Store::Heap(all) => all,
+            Store::Fenced(all) => all,
+        }
+    }
+}
+
+impl<T> DerefMut for Store<T> {
+    fn deref_mut(&mut self) -> &mut [T] {
+        match self {
+            Store::Heap(all) => all,
+            Store::Fenced(all) => all,
+        }
+    }
+}
+
 pub struct Guarded<T> {
-    /// Canaries, the buffer, canaries.
-    all: Vec<T>,
+    /// Canaries, the buffer, canaries; none where a fence is.
+    all: Store<T>,
     front: usize,
     length: usize,
     /// What the canaries were.
@@ -57,10 +91,19 @@ impl<T: Element> Guarded<T> {
     /// A buffer of zeros. The system gives memory for a large one only where it is touched.
     pub fn zeroed(length: usize, offset: usize) -> Guarded<T> {
         let edge: Vec<T> = (0..GUARD_BYTES / std::mem::size_of::<T>() + OFFSETS).map(T::canary).collect();
-        let front = edge.len() - OFFSETS + offset % OFFSETS;
-        let mut all = vec![T::ZERO; front + length + edge.len()];
+        let (front, behind) = match offset {
+            FENCED_BEHIND => (edge.len(), 0),
+            FENCED_BEFORE => (0, edge.len()),
+            _ => (edge.len() - OFFSETS + offset % OFFSETS, edge.len()),
+        };
+        let count = front + length + behind;
+        let mut all = if front == 0 || behind == 0 {
+            Store::Fenced(Fenced::zeroed(count, behind == 0))
+        } else {
+            Store::Heap(vec![T::ZERO; count])
+        };
         all[..front].copy_from_slice(&edge[..front]);
-        all[front + length..].copy_from_slice(&edge);
+        all[front + length..].copy_from_slice(&edge[..behind]);
         Guarded { all, front, length, edge }
     }
 
@@ -86,7 +129,16 @@ impl<T: Element> Guarded<T> {
     }
 
     pub fn intact(&self) -> bool {
-        self.all[..self.front] == self.edge[..self.front] && self.all[self.front + self.length..] == self.edge[..]
+        let (before, behind) = (&self.all[..self.front], &self.all[self.front + self.length..]);
+        before == &self.edge[..before.len()] && behind == &self.edge[..behind.len()]
+    }
+
+    /// Reads what stands right behind the buffer, or right before it: a planted fault.
+    pub fn read_outside(&self, behind: bool) {
+        let inner = self.inner().as_ptr();
+        let outside = if behind { inner.wrapping_add(self.length) } else { inner.wrapping_sub(1) };
+        // Safety: a canary, or a fence, which ends this program.
+        unsafe { outside.read_volatile() };
     }
 
     /// Changes the canary next to the buffer, before or behind it: a planted fault.
@@ -119,8 +171,8 @@ impl Real {
             records: Guarded::holding(&board.records, offsets[2]),
             cache: Guarded::holding(&board.cache, offsets[3]),
             memory: Guarded::holding(&board.memory, offsets[4]),
-            set: Guarded::holding(&[u32::from(board.tag.0)], offsets[0]),
-            name: Guarded::holding(&[board.tag.1], offsets[1]),
+            set: Guarded::holding(&[u32::from(board.tag.0)], offsets[0] % OFFSETS),
+            name: Guarded::holding(&[board.tag.1], offsets[1] % OFFSETS),
         }
     }
 

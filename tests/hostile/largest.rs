@@ -21,6 +21,7 @@ fn calls(frames: u64) -> Vec<Call> {
         store(0),
         load(UNCACHED * PAGE_BYTES),
         Call::FlushAll,
+        load(PREFIX1 + last * PAGE_BYTES + 4094),
         Call::Map { page: PAGE_FIRST, frame: frames, write: true },
         Call::Map { page: PAGE_FIRST, frame: last, write: true },
         Call::Attach { process: 0, slot: 0, segment: SEGMENT_FIRST, write: true },
@@ -56,7 +57,7 @@ pub fn largest() -> Result<(), String> {
 
 /// Gives how many calls were done.
 fn board(frames: u64, route: Route) -> Result<usize, String> {
-    let mut model = Board::fresh(Shape { frames, uncached: UNCACHED, processes: 1, lines: 4 });
+    let mut model = Board::fresh(Shape { frames, uncached: UNCACHED, processes: 1, lines: 1024 });
     let mut real = Real {
         shape: model.shape,
         slots: Guarded::zeroed(model.slots.len(), 1),

@@ -17,6 +17,11 @@ pub const SEGMENT_LAST: u64 = 4_190_207;
 pub const PAGE_FIRST: u64 = 0x20_0000;
 pub const PAGE_LAST: u64 = 0xFFBF_FFFF;
 
+/// Page numbers end here, and the page of frame 0's prefix 1 range; pages whose low 20 bits are the same are alike.
+pub const PAGES_END: u64 = 1 << 32;
+pub const PREFIX1_PAGE: u64 = 0x10_0000;
+pub const ALIKE: u64 = 1 << 20;
+
 /// The pages at the ends of what CR 5 refuses: the first and the last that have no entry, the first and the last that have one,
 /// the first number that is no page, and one that, cut to 32 bits, would be a page with an entry.
 pub const ENTRY_PAGES: [u64; 6] = [0, 0x1F_FFFF, 0x20_0000, 0xFFFF_FFFF, 0x1_0000_0000, 0x1_0020_0000];
@@ -25,6 +30,16 @@ pub const ENTRY_PAGES: [u64; 6] = [0, 0x1F_FFFF, 0x20_0000, 0xFFFF_FFFF, 0x1_000
 pub const USER_END: u32 = 0x8000_0000;
 pub const GLOBAL_END: u64 = 1 << 44;
 pub const NAMES_END: u64 = 1 << 40;
+
+/// Where the bytes of a line stand, in memory by its number and in the cache bytes by its place.
+pub fn line_bytes(line: u64) -> std::ops::Range<usize> {
+    (line * LINE_BYTES) as usize..((line + 1) * LINE_BYTES) as usize
+}
+
+/// The physical line that a name has where its page is in this frame.
+pub fn line_in(frame: u64, name: u64) -> u64 {
+    frame * LINES_PER_PAGE + name % LINES_PER_PAGE
+}
 
 /// The first value that is too large for a store of this width, by CR 2; other numbers are no widths.
 pub fn end_of_width(width: u32) -> Option<u64> {

@@ -5,20 +5,24 @@ mod apart;
 mod cases;
 mod coverage;
 mod edges;
+mod fence;
 mod gen;
 mod guarded;
 mod largest;
 mod limits;
 mod marks;
 mod pairs;
+mod places;
 mod plant;
 mod rng;
 mod routes;
 mod run;
 mod self_test;
 mod shrink;
+mod sights;
 mod trace;
 mod values;
+mod walks;
 
 use apart::End;
 use coverage::Coverage;
@@ -68,7 +72,7 @@ fn options() -> Result<Options, String> {
         match option.as_str() {
             "--calls" => options.calls = trace::number(&value()?)?,
             "--seed" => options.seed = trace::number(&value()?)?,
-            "--plant" => options.plant = Some(trace::value_of(&plant::PLANTS, &value()?)?),
+            "--plant" => options.plant = Some(trace::value_of(&plant::all(), &value()?)?),
             "--replay" => options.replay = Some(value()?),
             "--self-test" => options.self_test = true,
             "--largest" => options.largest = true,
@@ -196,9 +200,10 @@ fn search_and_report(options: &Options) -> Result<(), String> {
     let mut runs = || {
         search(&mut rng, options.calls, options.plant, &mut coverage)?;
         let edges = edges::edges(&mut rng, options.plant, &mut coverage)?;
-        Ok((edges, values::values(&mut rng, options.plant, &mut coverage)?))
+        let values = values::values(&mut rng, options.plant, &mut coverage)?;
+        Ok((edges, values, places::places(&mut rng, options.plant, &mut coverage)?))
     };
-    let (edges, values) = match runs() {
+    let (edges, values, places) = match runs() {
         Ok(boards) => boards,
         Err(Failure::Run(trace, difference)) => return Err(report(run::first_difference, *trace, difference)?),
         Err(Failure::Apart(traces, text)) => return Err(report_pair(&traces, &text)?),
@@ -209,6 +214,7 @@ fn search_and_report(options: &Options) -> Result<(), String> {
     println!("{} looks by themselves; {audits} audits of a fresh board with {audit_looks} looks", coverage.looks());
     println!("{edges} boards at the limits of P and L and past them, every call on each");
     println!("{values} boards with values at the ends of the widths, beside each number that an access gives");
+    println!("{places} boards with lines at the ends of a page's places, beside them and among them");
     println!(
         "{pairs} pairs of runs, equal for process 0 but for marks; {pairs_hit} with a hit in one run only, \
          {pairs_write_back} with a refill's write-back in one only"

@@ -7,6 +7,7 @@ use crate::limits::end_of_width;
 use crate::routes::{Looked, Told};
 use crate::run::Kind;
 use crate::values::{fitting, Access, Whose};
+use crate::walks::{walks, Walk};
 use model::{mark, Answer, Board, Call, Event, Plain, PlainAnswer, Record};
 
 #[derive(Clone, Copy, Debug, PartialEq, Eq)]
@@ -28,6 +29,8 @@ pub enum Plant {
     TagName,
     TagSet,
     Canary,
+    ReadsBehind,
+    ReadsBefore,
     LookPlace,
     LookNumber,
     LookWrites,
@@ -39,6 +42,7 @@ pub enum Plant {
     TwoCopies,
     Asks(Asks),
     Marks(Marks),
+    Walk(Walk),
     Panic,
     Signal,
     Hang,
@@ -98,7 +102,14 @@ pub enum Marks {
     Sweeps,
 }
 
-pub const PLANTS: [(Plant, &str); 51] = [
+/// All faults, by name.
+pub fn all() -> Vec<(Plant, String)> {
+    let plants = PLANTS.into_iter().map(|(plant, name)| (plant, name.to_string()));
+    plants.chain(walks().map(|(walk, name)| (Plant::Walk(walk), name))).collect()
+}
+
+/// All but the walks.
+pub const PLANTS: [(Plant, &str); 53] = [
     (Plant::Number, "number"),
     (Plant::Value, "value"),
     (Plant::Mark, "mark"),
@@ -116,6 +127,8 @@ pub const PLANTS: [(Plant, &str); 51] = [
     (Plant::TagName, "tag-name"),
     (Plant::TagSet, "tag-set"),
     (Plant::Canary, "canary"),
+    (Plant::ReadsBehind, "reads-behind"),
+    (Plant::ReadsBefore, "reads-before"),
     (Plant::LookPlace, "look-place"),
     (Plant::LookNumber, "look-number"),
     (Plant::LookWrites, "look-writes"),
@@ -168,7 +181,9 @@ impl Plant {
             Plant::Mark | Plant::Marks(_) => Kind::Mark,
             Plant::OffTable | Plant::MarkOffTable => Kind::Table,
             Plant::Hit | Plant::Packed => Kind::Form,
-            Plant::Slots | Plant::Words | Plant::Records | Plant::Cache | Plant::Memory => Kind::Buffer,
+            Plant::Slots | Plant::Words | Plant::Records | Plant::Cache | Plant::Memory | Plant::Walk(_) => {
+                Kind::Buffer
+            }
             Plant::Refused => Kind::Refused,
             Plant::TagName | Plant::TagSet => Kind::Tag,
             Plant::Canary => Kind::Canary,
@@ -178,15 +193,15 @@ impl Plant {
             Plant::PlainNumber | Plant::PlainValue | Plant::PlainMemory => Kind::Plain,
             Plant::TwoCopies => Kind::TwoCopies,
             Plant::Panic => Kind::Panic,
-            Plant::Signal | Plant::Hang => Kind::Signal,
+            Plant::Signal | Plant::Hang | Plant::ReadsBehind | Plant::ReadsBefore => Kind::Signal,
         }
     }
 
-    /// After a call, before which these were the facts: the library's board and what it told, and the model's.
+    /// After a call, before which these were the board and the facts: the library's board and what it told, and the model's.
     pub fn after_call(
         self,
         call: &Call,
-        facts: &Facts,
+        (before, facts): (&Board, &Facts),
         event: Event,
         (real, told): (&mut Real, &mut Told),
         (model, expected): (&mut Board, &mut Answer),
@@ -195,6 +210,12 @@ impl Plant {
         match (self, event) {
             (Plant::Asks(asks), _) => *answer = asks.answer(call, answer, model),
             (Plant::Marks(marks), _) => answer.mark = marks.mark(call, facts.line(), event, answer.mark),
+            (Plant::Walk(walk), _) if answer.number == 0 => {
+                if let Some((records, memory)) = walk.left(before, call) {
+                    real.records.inner_mut().copy_from_slice(&records);
+                    real.memory.inner_mut().copy_from_slice(&memory);
+                }
+            }
             (Plant::Number, Event::Refused(9)) => answer.number = 7,
             (Plant::Value, Event::Hit) if answer.value != 0 => answer.value ^= 0x100,
             (Plant::Mark, Event::MissWriteBack) => answer.mark = mark::HIT,
@@ -215,6 +236,8 @@ impl Plant {
             (Plant::TagName, Event::Done) if matches!(call, Call::Tag { .. }) => flip_last(&mut real.name),
             (Plant::TagSet, Event::Done) if matches!(call, Call::Tag { .. }) => real.set.inner_mut()[0] = 2,
             (Plant::Canary, Event::FoundHeld) => real.cache.break_canary(false),
+            (Plant::ReadsBehind, Event::Unmapped { .. }) => real.records.read_outside(true),
+            (Plant::ReadsBefore, Event::Protected { .. }) => real.records.read_outside(false),
             (Plant::Panic, Event::Mapped { by_prefix1: 1.., .. }) => panic!("a planted panic"),
             (Plant::Signal, Event::Unmapped { written: 1.., .. }) => std::process::abort(),
             (Plant::Hang, Event::Unmapped { written: 1.., .. }) => loop {

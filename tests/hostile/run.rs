@@ -4,10 +4,11 @@ use crate::apart;
 use crate::cases::{self, Facts};
 use crate::coverage::{self, Coverage};
 use crate::guarded::{Element, Real};
-use crate::limits::{LINES_PER_PAGE, LINE_BYTES};
+use crate::limits::{line_bytes, LINES_PER_PAGE};
 use crate::marks;
 use crate::plant::Plant;
 use crate::routes::{self, Manner, Route};
+use crate::sights;
 use crate::trace::{Deed, Start, Step, Trace};
 use crate::values;
 use model::{Answer, Board, Call, Event, Plain, Record};
@@ -138,13 +139,15 @@ impl Run {
 
     fn call(&mut self, call: &Call, manner: &Manner, coverage: &mut Coverage) -> Result<Given, Difference> {
         let facts = Facts::before(&self.model, call);
+        let met = sights::met(&self.model, call);
         let mut cases = cases::manner_cases(&self.model, call, manner);
         let (mut expected, event) = self.model.step(call);
         let (set, _) = self.real.tag();
         let outcome = routes::call(&mut self.real, call, manner);
         let mut told = outcome.map_err(|text| differs(Kind::Canary, text))?;
         if let Some(plant) = self.plant {
-            plant.after_call(call, &facts, event, (&mut self.real, &mut told), (&mut self.model, &mut expected));
+            let before = (&self.kept, &facts);
+            plant.after_call(call, before, event, (&mut self.real, &mut told), (&mut self.model, &mut expected));
         }
         let answer = told.answer;
         same(Kind::Number, "number", answer.number, expected.number, "the model")?;
@@ -167,6 +170,9 @@ impl Run {
         cases.extend(cases::cases_of(&facts, call, event));
         coverage.count(self.fresh, &deed, manner.route, answer.number, &cases);
         coverage.count_mark(self.fresh, manner.route, marked);
+        if answer.number == 0 {
+            coverage.count_sights(self.fresh, manner.route, self.model.shape.lines, &met);
+        }
         if let Some(tried) = values::tried(&self.model, call, event, answer.number) {
             coverage.count_value(self.fresh, manner.route, tried);
         }
@@ -271,7 +277,7 @@ impl Run {
             Some(place) => (self.real.cache.inner(), place),
             None => (self.real.memory.inner(), seen.line),
         };
-        &bytes[(index * LINE_BYTES) as usize..][..LINE_BYTES as usize]
+        &bytes[line_bytes(index)]
     }
 
     fn look(&mut self, line: u64, manner: &Manner, coverage: &mut Coverage) -> Result<Given, Difference> {
@@ -337,7 +343,7 @@ impl Run {
         let mut looks = 0;
         for line in (0..LINES_PER_PAGE * self.model.shape.frames).step_by(stride) {
             let seen = self.looked(line, manner)?;
-            let expected = &plain.memory[(line * LINE_BYTES) as usize..][..LINE_BYTES as usize];
+            let expected = &plain.memory[line_bytes(line)];
             let shown = self.bytes_of(&seen);
             same_buffer(Kind::Plain, "look's bytes", shown, expected, "the plain machine's memory")
                 .map_err(|d| Difference { text: format!("physical line {line:#x}, {}", d.text), ..d })?;

@@ -5,16 +5,20 @@ use crate::apart::End;
 use crate::coverage::Coverage;
 use crate::guarded::Real;
 use crate::pairs::{self, Failure};
+use crate::places::{Boards, LINES};
 use crate::plant::{Plant, PLANTS};
 use crate::rng::Rng;
+use crate::routes::{Manner, Route};
 use crate::run::{first_difference, quietly, Difference, Kind};
 use crate::shrink::{self, Fails};
+use crate::sights::{Size, SWEEPS};
 use crate::trace::{self, Trace};
+use crate::walks::{Walk, WRONGS};
 use crate::{apart, edges, routes, search, values};
 use model::{Board, Shape};
 
 /// Calls within which a planted fault must be found.
-const CALLS: u64 = 40_000;
+const CALLS: u64 = 100_000;
 
 /// Steps to which it must shrink.
 const STEPS: usize = 8;
@@ -34,6 +38,7 @@ pub fn all() -> Result<(), String> {
     let asks: Vec<Plant> = PLANTS.map(|(plant, _)| plant).into_iter().filter(|p| matches!(p, Plant::Asks(_))).collect();
     planted_in(values::values, &asks)?;
     println!("planted faults in what is asked of values found beside the numbers");
+    planted_walks()?;
     canaries()?;
     println!("each canary, changed, is named");
     let required = unreached()?;
@@ -54,10 +59,16 @@ fn planted(plant: Plant) -> Result<(usize, usize), String> {
             Ok(()) => return Err("not found".into()),
         }
     };
+    let found = trace.steps.len();
+    let left = shrunk(plant, fails, trace, difference)?;
+    Ok((found, left))
+}
+
+/// Shrinks the trace that has found a fault, and replays it. Gives how many steps were left.
+fn shrunk(plant: Plant, fails: Fails, trace: Trace, difference: Difference) -> Result<usize, String> {
     if difference.kind != plant.found_as() {
         return Err(format!("found as another fault: {difference:?}"));
     }
-    let found = trace.steps.len();
     let (small, difference) = shrink::shrink(fails, trace, difference);
     let left = small.steps.len();
     if left > STEPS {
@@ -73,8 +84,53 @@ fn planted(plant: Plant) -> Result<(usize, usize), String> {
         other => return Err(format!("{difference:?} before, {other:?} when its trace is replayed")),
     }
     match fails(&Trace { plant: None, ..read }) {
-        None => Ok((found, left)),
+        None => Ok(left),
         Some((_, other)) => Err(format!("its trace fails without the fault too: {}", other.text)),
+    }
+}
+
+/// Faults in which places a call visits: each must be found wherever it shows, and nothing where nothing is wrong.
+fn planted_walks() -> Result<(), String> {
+    let mut rng = Rng::new(7);
+    let boards = LINES.map(|lines| Boards::of(&mut rng, lines));
+    // With the most lines runs take long: only what is wrong is tried there, on wild boards.
+    let quick = || boards.iter().filter(|boards| Size::of(boards.lines) != Size::Most);
+    for (sweep, call) in SWEEPS {
+        let right = Walk { sweep, wrong: None };
+        if quick().any(|boards| walked(&mut rng, boards, false, right).is_some()) {
+            return Err(format!("{call}: a fault is found where nothing is wrong"));
+        }
+    }
+    for (wrong, name, at) in WRONGS {
+        for &sweep in at.wild {
+            let all = boards.iter().map(|boards| (false, boards)).chain(quick().map(|boards| (true, boards)));
+            let shows = |(fresh, boards): &(bool, &Boards)| at.has(sweep, Size::of(boards.lines), *fresh);
+            planted_walk(&mut rng, Walk { sweep, wrong: Some(wrong) }, all.filter(shows))
+                .map_err(|problem| format!("planted fault '{name}' in {sweep:?}: {problem}"))?;
+        }
+        let calls: Vec<&str> = at.wild.iter().map(|&sweep| trace::name_of(&SWEEPS, sweep)).collect();
+        println!("planted fault {name:18} found in {}; shrunk, replayed", calls.join(", "));
+    }
+    Ok(())
+}
+
+/// A fault must be found on each of these boards, fresh or wild; the first trace is shrunk.
+fn planted_walk<'a>(rng: &mut Rng, walk: Walk, all: impl Iterator<Item = (bool, &'a Boards)>) -> Result<usize, String> {
+    let mut first = None;
+    for (fresh, boards) in all {
+        let found = walked(rng, boards, fresh, walk);
+        let lines = boards.lines;
+        first.get_or_insert(found.ok_or(format!("not found with {lines} lines, on a fresh board: {fresh}"))?);
+    }
+    let (trace, difference) = first.ok_or("tried nowhere")?;
+    shrunk(Plant::Walk(walk), first_difference, trace, difference)
+}
+
+fn walked(rng: &mut Rng, boards: &Boards, fresh: bool, walk: Walk) -> Option<(Trace, Difference)> {
+    let raw = Manner { route: Route::Raw, yes: 1, null: false };
+    match boards.runs(rng, (fresh, raw), Some(Plant::Walk(walk)), &mut Coverage::new()) {
+        Err(Failure::Run(trace, difference)) => Some((*trace, difference)),
+        _ => None,
     }
 }
 

@@ -10,7 +10,7 @@ pub struct Start {
     /// A fresh board: the plain machine runs beside it.
     pub fresh: bool,
     pub board: Board,
-    /// By how many elements each buffer's start is moved: slots, words, records, cache, memory.
+    /// By how many elements each buffer's start is moved, or at which fence it stands: slots, words, records, cache, memory.
     pub offsets: [usize; 5],
 }
 
@@ -135,13 +135,17 @@ pub fn step_text(step: &Step) -> String {
 }
 
 /// The name that a table gives to a value.
-pub fn name_of<T: PartialEq>(table: &[(T, &'static str)], value: T) -> &'static str {
-    table.iter().find(|(entry, _)| *entry == value).expect("every value has a name").1
+pub fn name_of<T: PartialEq, S: AsRef<str>>(table: &[(T, S)], value: T) -> &str {
+    table.iter().find(|(entry, _)| *entry == value).expect("every value has a name").1.as_ref()
 }
 
 /// The value that a table has under a name.
-pub fn value_of<T: Copy>(table: &[(T, &str)], name: &str) -> Result<T, String> {
-    table.iter().find(|(_, entry)| *entry == name).map(|&(value, _)| value).ok_or(format!("unknown name '{name}'"))
+pub fn value_of<T: Copy, S: AsRef<str>>(table: &[(T, S)], name: &str) -> Result<T, String> {
+    table
+        .iter()
+        .find(|(_, entry)| entry.as_ref() == name)
+        .map(|(value, _)| *value)
+        .ok_or(format!("unknown name '{name}'"))
 }
 
 // ----- writing -----
@@ -152,7 +156,7 @@ pub fn to_text(trace: &Trace) -> String {
     let Shape { frames, uncached, processes, lines } = board.shape;
     let mut text = String::new();
     if let Some(plant) = trace.plant {
-        writeln!(text, "plant {}", name_of(&plant::PLANTS, plant)).expect("text grows");
+        writeln!(text, "plant {}", name_of(&plant::all(), plant)).expect("text grows");
     }
     let head = [
         format!("fresh {}", u32::from(*fresh)),
@@ -227,7 +231,7 @@ fn read_line(trace: &mut Trace, words: &[&str]) -> Result<(), String> {
     let second = *words.get(1).ok_or("the line has one word only")?;
     let Start { fresh, board, offsets } = &mut trace.start;
     match words[0] {
-        "plant" => trace.plant = Some(value_of(&plant::PLANTS, second)?),
+        "plant" => trace.plant = Some(value_of(&plant::all(), second)?),
         "fresh" => *fresh = number(second)? != 0,
         "shape" => {
             let get = |key| arguments.number(key);

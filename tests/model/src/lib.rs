@@ -593,7 +593,8 @@ impl Board {
         self.held(place_of(name, self.shape.lines)).filter(|record| record.name == name)
     }
 
-    /// The held records whose name lies in this page, "by rising place".
+    /// The places of all held lines "named in the page", "by rising place". All places are asked: that CR 3 has a call visit
+    /// some only may not show.
     fn held_in_page(&self, page: u64) -> Vec<u64> {
         (0..self.shape.lines).filter(|&place| self.held(place).is_some_and(|r| page_of_name(r.name) == page)).collect()
     }

@@ -1,0 +1,323 @@
+//! What map, unmap, protect and flush all meet at the places of a page. CR 3 has a call visit the places of a page's 256 names
+//! and no others, so what stands at these decides whether it visits the right ones: lines at both ends of them; beside and
+//! among them lines that are not the page's, and records that only look like its lines; lines that share a physical line. All
+//! is counted in every run, by how many lines the board has and by route; the planned runs of `places.rs` reach it.
+
+use crate::limits::*;
+use model::{mapping, page_in_range, page_of_name, place_of, Board, Call, Record};
+use std::cmp::Ordering;
+use std::collections::BTreeMap;
+use std::ops::Range;
+use Size::{Few, Many, Most, One, Page};
+use Sweep::{FlushAll, MapFrame, MapPage, Protect, Unmap};
+
+/// Whose lines a call takes: map takes those of the page and those of the frame's prefix 1 range; flush all takes all.
+#[derive(Clone, Copy, Debug, PartialEq, Eq)]
+pub enum Sweep {
+    MapPage,
+    MapFrame,
+    Unmap,
+    Protect,
+    FlushAll,
+}
+
+pub const SWEEPS: [(Sweep, &str); 5] =
+    [(MapPage, "map"), (MapFrame, "map prefix 1"), (Unmap, "unmap"), (Protect, "protect"), (FlushAll, "flush all")];
+
+/// The sweeps of a page's lines; a frame's prefix 1 range has 256 names as a page has.
+pub const PAGES: &[Sweep] = &[MapPage, MapFrame, Unmap, Protect];
+
+/// How many lines a board has.
+#[derive(Clone, Copy, Debug, PartialEq, Eq)]
+pub enum Size {
+    One,
+    Few,
+    Page,
+    Many,
+    Most,
+}
+
+pub const SIZES: [(Size, &str); 5] = [
+    (One, "1 line"),
+    (Few, "2 to 128 lines"),
+    (Page, "256 lines"),
+    (Many, "512 to 32,768 lines"),
+    (Most, "65,536 lines"),
+];
+
+impl Size {
+    /// Of a number that L may be.
+    pub fn of(lines: u64) -> Size {
+        match (lines, lines.cmp(&LINES_PER_PAGE)) {
+            (1, _) => One,
+            (LINES_MAX, _) => Most,
+            (_, Ordering::Less) => Few,
+            (_, Ordering::Equal) => Page,
+            (_, Ordering::Greater) => Many,
+        }
+    }
+}
+
+/// Any number of lines; several; fewer than a page has; more, so that there are other places than the page's.
+pub const ANY: &[Size] = &[One, Few, Page, Many, Most];
+pub const SEVERAL: &[Size] = &[Few, Page, Many, Most];
+pub const FEWER: &[Size] = &[Few];
+pub const MORE: &[Size] = &[Many, Most];
+
+/// On a fresh board no line is held of a page that is about to be mapped.
+pub const HELD: &[Sweep] = &[MapFrame, Unmap, Protect];
+pub const NONE: &[Sweep] = &[];
+
+/// By which sweeps something is met on wild boards, by which on fresh ones, and with how many lines.
+pub struct Where {
+    pub wild: &'static [Sweep],
+    pub fresh: &'static [Sweep],
+    pub sizes: &'static [Size],
+}
+
+impl Where {
+    pub fn has(&self, sweep: Sweep, size: Size, fresh: bool) -> bool {
+        let sweeps = if fresh { self.fresh } else { self.wild };
+        sweeps.contains(&sweep) && self.sizes.contains(&size)
+    }
+}
+
+macro_rules! sights {
+    ($($sight:ident $words:literal: $wild:expr, $fresh:expr, $sizes:expr;)*) => {
+        #[derive(Clone, Copy, Debug, PartialEq, Eq)]
+        pub enum Sight { $($sight),* }
+
+        /// In words, where "it" is the page, or the frame's prefix 1 range; and where it must be met.
+        pub const SIGHTS: &[(Sight, &str, Where)] =
+            &[$((Sight::$sight, $words, Where { wild: $wild, fresh: $fresh, sizes: $sizes })),*];
+    };
+}
+
+sights! {
+    First "a line of it at the first of its places": PAGES, HELD, ANY;
+    Last "a line of it at the last of its places": PAGES, HELD, ANY;
+    Full "a line of it at each of its places": PAGES, NONE, ANY;
+    Bottom "a line of it at the first place of all": PAGES, HELD, MORE;
+    Top "a line of it at the last place of all": PAGES, HELD, MORE;
+    Before "another page's line just before its places": PAGES, PAGES, MORE;
+    After "another page's line just after its places": PAGES, PAGES, MORE;
+    Alike "at its places a line of a page with the same low 20 bits": PAGES, PAGES, ANY;
+    Far "at its places a name from 2^40 up with the low 40 bits of one of its names": PAGES, NONE, ANY;
+    Highest "at its places the highest name that can stand there": PAGES, NONE, ANY;
+    Shared "at its places another page's line with the physical line of a changed one of it": PAGES, NONE, SEVERAL;
+    Stray "a valid record of it at its places, but not at its own": PAGES, NONE, SEVERAL;
+    Astray "a valid record of it at none of its places": PAGES, NONE, MORE;
+    Beyond "a valid record of it with a line beyond memory": PAGES, NONE, ANY;
+    Invalid "a record of it that is not valid": PAGES, NONE, ANY;
+    Twice "two changed lines of one physical line, half of the places apart": &[Unmap, FlushAll], NONE, SEVERAL;
+    Crossed "two changed lines of one physical line, the higher name at the lower place": &[Unmap], NONE, FEWER;
+    Elsewhere "a changed line of it whose physical line is not where it is mapped": &[Unmap], NONE, ANY;
+    Prefix1 "a line of its frame's prefix 1 range": &[Unmap, Protect], NONE, ANY;
+    Same "prefix 1 lines at both ends of their places, which are the page's": &[MapFrame], &[MapFrame], ANY;
+    Below "prefix 1 lines at both ends of their places, below the page's": &[MapFrame], &[MapFrame], MORE;
+    Above "prefix 1 lines at both ends of their places, above the page's": &[MapFrame], &[MapFrame], MORE;
+    BothSame "prefix 1 lines and the page's at the same places": &[MapFrame], NONE, SEVERAL;
+    BothBelow "prefix 1 lines below the page's": &[MapFrame], NONE, MORE;
+    BothAbove "prefix 1 lines above the page's": &[MapFrame], NONE, MORE;
+    Ends "changed lines at the first place of all and at the last": &[FlushAll], &[FlushAll], ANY;
+    Quarters "a changed line in each quarter of the places": &[FlushAll], &[FlushAll], SEVERAL;
+}
+
+/// The places of a page's 256 names, each the name mod L: in a row, and all places where L is no more than 256.
+pub fn places_of(page: u64, lines: u64) -> Range<u64> {
+    let first = place_of(page * LINES_PER_PAGE, lines);
+    first..first + lines.min(LINES_PER_PAGE)
+}
+
+/// Whether a physical line is inside memory.
+pub fn inside(board: &Board, line: u64) -> bool {
+    line < LINES_PER_PAGE * board.shape.frames
+}
+
+/// What a call meets, by sweep. Nothing if it is no sweep, or certainly refused.
+pub fn met(board: &Board, call: &Call) -> Vec<(Sweep, Vec<Sight>)> {
+    if !board.fits() {
+        return Vec::new();
+    }
+    match *call {
+        Call::Map { page, frame, .. } if page_in_range(page) && frame < board.shape.frames => {
+            let prefix1 = PREFIX1_PAGE + frame;
+            let (own, frames) = (Ground::of(board, page, prefix1), Ground::of(board, prefix1, page));
+            vec![(MapPage, own.sights()), (MapFrame, [frames.sights(), frames.sights_beside(&own)].concat())]
+        }
+        Call::Unmap { page } if page_in_range(page) => {
+            let own = Ground::of(board, page, page);
+            vec![(Unmap, [own.sights(), own.sights_of_mapped(), own.sights_of_changed()].concat())]
+        }
+        Call::Protect { page, .. } if page_in_range(page) => {
+            let own = Ground::of(board, page, page);
+            vec![(Protect, [own.sights(), own.sights_of_mapped()].concat())]
+        }
+        Call::FlushAll => vec![(FlushAll, sights_of_all(board))],
+        _ => Vec::new(),
+    }
+}
+
+fn those<const N: usize>(all: [(bool, Sight); N]) -> Vec<Sight> {
+    all.into_iter().filter(|(is, _)| *is).map(|(_, sight)| sight).collect()
+}
+
+/// A held line.
+struct Held {
+    place: u64,
+    record: Record,
+}
+
+impl Held {
+    fn all(board: &Board, places: Range<u64>) -> impl Iterator<Item = Held> + '_ {
+        places.filter_map(|place| board.held(place).map(|record| Held { place, record }))
+    }
+
+    fn bytes<'a>(&self, board: &'a Board) -> &'a [u8] {
+        &board.cache[line_bytes(self.place)]
+    }
+}
+
+/// Of each physical line, the lowest of these and the highest, where their bytes differ. They come by rising place.
+fn doubles<'a>(board: &Board, lines: impl Iterator<Item = &'a Held>) -> Vec<[&'a Held; 2]> {
+    let mut of_line: BTreeMap<u64, [&Held; 2]> = BTreeMap::new();
+    for held in lines {
+        of_line.entry(held.record.line).or_insert([held; 2])[1] = held;
+    }
+    of_line.into_values().filter(|[low, high]| low.bytes(board) != high.bytes(board)).collect()
+}
+
+fn apart(doubles: &[[&Held; 2]], places: u64) -> bool {
+    doubles.iter().any(|[low, high]| high.place - low.place >= places)
+}
+
+/// The places of a page that a call takes the lines of.
+struct Ground<'a> {
+    board: &'a Board,
+    page: u64,
+    /// The call takes the lines of this page, too.
+    also: u64,
+    places: Range<u64>,
+    /// The lines held there: the page's, and those that the call doesn't take.
+    own: Vec<Held>,
+    kept: Vec<Held>,
+}
+
+impl Ground<'_> {
+    fn of(board: &Board, page: u64, also: u64) -> Ground<'_> {
+        let places = places_of(page, board.shape.lines);
+        let lines = Held::all(board, places.clone()).filter(|held| {
+            let of = page_of_name(held.record.name);
+            of == page || of != also
+        });
+        let (own, kept) = lines.partition(|held| page_of_name(held.record.name) == page);
+        Ground { board, page, also, places, own, kept }
+    }
+
+    fn own_at(&self, place: u64) -> bool {
+        self.own.iter().any(|held| held.place == place)
+    }
+
+    fn at_both_ends(&self) -> bool {
+        self.own_at(self.places.start) && self.own_at(self.places.end - 1)
+    }
+
+    /// Whether a line that the call doesn't take is held at this place beside the page's.
+    fn kept_beside(&self, place: u64) -> bool {
+        let held = (place < self.board.shape.lines).then(|| self.board.held(place)).flatten();
+        held.is_some_and(|record| page_of_name(record.name) != self.also)
+    }
+
+    fn kept_name(&self, is: impl Fn(u64) -> bool) -> bool {
+        self.kept.iter().any(|held| is(held.record.name))
+    }
+
+    fn changed(&self) -> impl Iterator<Item = &Held> {
+        self.own.iter().filter(|held| held.record.changed)
+    }
+
+    /// The records on all the board that have a name of the page: whether each stands at the page's places, is valid, stands at
+    /// its own place and has a line in memory.
+    fn records(&self) -> Vec<[bool; 4]> {
+        let names = (0..).zip(self.board.records.iter().step_by(2));
+        let named = names.filter(|(_, &name)| page_of_name(name) == self.page);
+        let asked = named.map(|(place, &name)| {
+            let Record { valid, line, .. } = self.board.record(place);
+            let placed = place_of(name, self.board.shape.lines) == place;
+            [self.places.contains(&place), valid, placed, inside(self.board, line)]
+        });
+        asked.collect()
+    }
+
+    /// What the sweep of any page may meet.
+    fn sights(&self) -> Vec<Sight> {
+        let (lines, Range { start, end }) = (self.board.shape.lines, self.places.clone());
+        let records = self.records();
+        let alike = |of: u64| of < PAGES_END && of % ALIKE == self.page % ALIKE;
+        let shared = |own: &Held| {
+            let twin =
+                |held: &Held| held.record.line == own.record.line && held.bytes(self.board) != own.bytes(self.board);
+            self.kept.iter().any(twin)
+        };
+        those([
+            (self.own_at(start), Sight::First),
+            (self.own_at(end - 1), Sight::Last),
+            (self.own.len() as u64 == end - start, Sight::Full),
+            (start == 0 && self.own_at(start), Sight::Bottom),
+            (end == lines && self.own_at(end - 1), Sight::Top),
+            (start > 0 && self.kept_beside(start - 1), Sight::Before),
+            (self.kept_beside(end), Sight::After),
+            (self.kept_name(|name| alike(page_of_name(name))), Sight::Alike),
+            (self.kept_name(|name| name >= NAMES_END && page_of_name(name % NAMES_END) == self.page), Sight::Far),
+            (self.kept_name(|name| name.checked_add(lines).is_none()), Sight::Highest),
+            (self.changed().any(shared), Sight::Shared),
+            (records.contains(&[true, true, false, true]), Sight::Stray),
+            (records.contains(&[false, true, false, true]), Sight::Astray),
+            (records.contains(&[true, true, true, false]), Sight::Beyond),
+            (records.contains(&[true, false, true, true]), Sight::Invalid),
+        ])
+    }
+
+    /// What the sweep of a frame's prefix 1 range may meet, beside the page's places.
+    fn sights_beside(&self, page: &Ground) -> Vec<Sight> {
+        let (ends, both) = match self.places.start.cmp(&page.places.start) {
+            Ordering::Equal => (Sight::Same, Sight::BothSame),
+            Ordering::Less => (Sight::Below, Sight::BothBelow),
+            Ordering::Greater => (Sight::Above, Sight::BothAbove),
+        };
+        those([(self.at_both_ends(), ends), (!self.own.is_empty() && !page.own.is_empty(), both)])
+    }
+
+    /// What may be met of a page that is mapped.
+    fn sights_of_mapped(&self) -> Vec<Sight> {
+        let Some((frame, _)) = mapping(&self.board.shape, &self.board.words, self.page) else { return Vec::new() };
+        let prefix1 = Ground::of(self.board, PREFIX1_PAGE + frame, self.page);
+        those([
+            (!prefix1.own.is_empty(), Sight::Prefix1),
+            (self.changed().any(|held| held.record.line != line_in(frame, held.record.name)), Sight::Elsewhere),
+        ])
+    }
+
+    /// What may be met where lines are written back.
+    fn sights_of_changed(&self) -> Vec<Sight> {
+        let doubles = doubles(self.board, self.changed());
+        let places = self.places.end - self.places.start;
+        those([
+            (apart(&doubles, places / 2), Sight::Twice),
+            (doubles.iter().any(|[low, high]| low.record.name > high.record.name), Sight::Crossed),
+        ])
+    }
+}
+
+/// What flush all may meet.
+fn sights_of_all(board: &Board) -> Vec<Sight> {
+    let lines = board.shape.lines;
+    let changed: Vec<Held> = Held::all(board, 0..lines).filter(|held| held.record.changed).collect();
+    let at = |place: u64| changed.binary_search_by_key(&place, |held| held.place).is_ok();
+    let quarter = |quarter: u64| changed.iter().any(|held| held.place * 4 / lines == quarter);
+    those([
+        (at(0) && at(lines - 1), Sight::Ends),
+        ((0..4).all(quarter), Sight::Quarters),
+        (apart(&doubles(board, changed.iter()), lines / 2), Sight::Twice),
+    ])
+}

@@ -1,0 +1,226 @@
+//! Planted faults in which places map, unmap, protect and flush all visit, in which order, and which lines they take there:
+//! the wrong shortcuts that CR 3 invites. Each makes of a board what a library with that fault would.
+
+use crate::gen::put;
+use crate::limits::*;
+use crate::sights::{inside, places_of, Size, Sweep, Where, ANY, FEWER, HELD, MORE, NONE, PAGES, SEVERAL, SWEEPS};
+use model::{mapping, page_of_name, place_of, Board, Call, Record};
+use std::ops::Range;
+use Sweep::{FlushAll, MapFrame, MapPage, Protect, Unmap};
+
+/// What is wrong in a sweep.
+#[derive(Clone, Copy, Debug, PartialEq, Eq)]
+pub enum Wrong {
+    /// No place is visited.
+    Forgets,
+    /// The last place is not visited.
+    ShortEnd,
+    /// The first place is not visited.
+    ShortStart,
+    /// Of fewer places than a page has names, only the first half is visited.
+    Half,
+    /// The places of the page after it are visited.
+    NextPage,
+    /// The places from page mod L up are visited.
+    PageModLines,
+    /// The frame's places are visited only where they are the page's.
+    PagePlaces,
+    /// The first 256 places are visited.
+    FirstPlaces,
+    /// By falling place.
+    Falling,
+    /// By rising name.
+    ByName,
+    /// Names are not compared.
+    AnyName,
+    /// The low 20 bits of page numbers are compared.
+    Alike,
+    /// The low 40 bits of names are compared.
+    LowBits,
+    /// Records at another place than their own are taken.
+    Strays,
+    /// Records with a line beyond memory are taken.
+    Beyond,
+    /// Records that are not valid are taken.
+    Invalid,
+    /// Lines of the frame's prefix 1 range are taken, too.
+    Prefix1,
+    /// Changed lines are written back.
+    WritesBack,
+    /// Changed lines are written to where the page is mapped.
+    ThroughMap,
+}
+
+/// With its name, and where it shows.
+pub const WRONGS: [(Wrong, &str, Where); 19] = [
+    (Wrong::Forgets, "forgets", at(PAGES, HELD, ANY)),
+    (Wrong::ShortEnd, "short-end", at(EACH, EACH_HELD, ANY)),
+    (Wrong::ShortStart, "short-start", at(EACH, EACH_HELD, ANY)),
+    (Wrong::Half, "half", at(PAGES, HELD, FEWER)),
+    (Wrong::NextPage, "next-page", at(PAGES, HELD, MORE)),
+    (Wrong::PageModLines, "page-mod-lines", at(PAGES, HELD, MORE)),
+    (Wrong::PagePlaces, "page-places", at(&[MapFrame], &[MapFrame], MORE)),
+    (Wrong::FirstPlaces, "first-places", at(&[FlushAll], &[FlushAll], MORE)),
+    (Wrong::Falling, "falling", at(&[Unmap, FlushAll], NONE, SEVERAL)),
+    (Wrong::ByName, "by-name", at(&[Unmap], NONE, FEWER)),
+    (Wrong::AnyName, "any-name", at(PAGES, PAGES, ANY)),
+    (Wrong::Alike, "alike", at(PAGES, PAGES, ANY)),
+    (Wrong::LowBits, "low-bits", at(PAGES, NONE, ANY)),
+    (Wrong::Strays, "strays", at(PAGES, NONE, SEVERAL)),
+    (Wrong::Beyond, "beyond", at(PAGES, NONE, ANY)),
+    (Wrong::Invalid, "invalid", at(PAGES, NONE, ANY)),
+    (Wrong::Prefix1, "prefix-1", at(&[Unmap, Protect], NONE, ANY)),
+    (Wrong::WritesBack, "writes-back", at(&[MapPage, MapFrame], NONE, ANY)),
+    (Wrong::ThroughMap, "through-map", at(&[Unmap], NONE, ANY)),
+];
+
+const EACH: &[Sweep] = &[MapPage, MapFrame, Unmap, Protect, FlushAll];
+const EACH_HELD: &[Sweep] = &[MapFrame, Unmap, Protect, FlushAll];
+
+const fn at(wild: &'static [Sweep], fresh: &'static [Sweep], sizes: &'static [Size]) -> Where {
+    Where { wild, fresh, sizes }
+}
+
+/// A sweep with what is wrong in it, if anything is.
+#[derive(Clone, Copy, Debug, PartialEq, Eq)]
+pub struct Walk {
+    pub sweep: Sweep,
+    pub wrong: Option<Wrong>,
+}
+
+/// Every sweep with everything that can be wrong in it, by name.
+pub fn walks() -> impl Iterator<Item = (Walk, String)> {
+    WRONGS.into_iter().flat_map(|(wrong, name, at)| {
+        let those = SWEEPS.into_iter().filter(move |(sweep, _)| at.wild.contains(sweep));
+        those.map(move |(sweep, call)| (Walk { sweep, wrong: Some(wrong) }, format!("{call} {name}").replace(' ', "-")))
+    })
+}
+
+impl Walk {
+    /// The records and the memory of a board after a call that is done; none if the call doesn't have this sweep.
+    pub fn left(self, before: &Board, call: &Call) -> Option<(Vec<u64>, Vec<u8>)> {
+        let mut board = before.clone();
+        for pass in self.passes(before, call)? {
+            pass.make(&mut board);
+        }
+        if let Call::Map { frame, .. } = *call {
+            board.memory[(frame * PAGE_BYTES) as usize..][..PAGE_BYTES as usize].fill(0);
+        }
+        Some((board.records, board.memory))
+    }
+
+    fn passes(self, board: &Board, call: &Call) -> Option<Vec<Pass>> {
+        let all = 0..board.shape.lines;
+        let pass = |page: u64, act: Act| Pass { wrong: self.wrong, page: Some(page), within: all.clone(), act };
+        let right = |page: u64, act: Act| Pass { wrong: None, ..pass(page, act) };
+        let is = |wrong: Wrong| self.wrong == Some(wrong);
+        let frame_of = |page: u64| mapping(&board.shape, &board.words, page).map(|(frame, _)| frame);
+        let with_prefix1 = |page: u64, act: Act| {
+            let prefix1 = frame_of(page).filter(|_| is(Wrong::Prefix1)).map(|frame| right(PREFIX1_PAGE + frame, act));
+            [pass(page, act)].into_iter().chain(prefix1).collect()
+        };
+        let dropped = if is(Wrong::WritesBack) { Act::WriteBack(None) } else { Act::Drop };
+        Some(match (*call, self.sweep) {
+            (Call::Map { page, frame, .. }, MapPage) => {
+                vec![pass(page, dropped), right(PREFIX1_PAGE + frame, Act::Drop)]
+            }
+            (Call::Map { page, frame, .. }, MapFrame) => {
+                let within = if is(Wrong::PagePlaces) { places_of(page, all.end) } else { all.clone() };
+                vec![right(page, Act::Drop), Pass { within, ..pass(PREFIX1_PAGE + frame, dropped) }]
+            }
+            (Call::Unmap { page }, Unmap) => {
+                let through = frame_of(page).filter(|_| is(Wrong::ThroughMap));
+                with_prefix1(page, Act::WriteBack(through))
+            }
+            (Call::Protect { page, write }, Protect) => with_prefix1(page, Act::Permit(write)),
+            (Call::FlushAll, FlushAll) => vec![Pass { page: None, ..pass(0, Act::WriteBack(None)) }],
+            _ => return None,
+        })
+    }
+}
+
+/// What is done with a line that is taken.
+#[derive(Clone, Copy)]
+enum Act {
+    Drop,
+    /// Written back, then dropped; to a line of this frame, if there is one.
+    WriteBack(Option<u64>),
+    Permit(bool),
+}
+
+/// A way over the places of a page, or over all, and what is done with the lines of that page, or with all.
+struct Pass {
+    wrong: Option<Wrong>,
+    page: Option<u64>,
+    within: Range<u64>,
+    act: Act,
+}
+
+impl Pass {
+    fn make(&self, board: &mut Board) {
+        for place in self.places(board) {
+            if self.takes(board, place) {
+                self.act(board, place);
+            }
+        }
+    }
+
+    /// The places in the order in which they are visited.
+    fn places(&self, board: &Board) -> Vec<u64> {
+        let lines = board.shape.lines;
+        let own = |page: u64| places_of(page, lines);
+        let Range { start, end } = self.page.map_or(0..lines, own);
+        let few = lines < LINES_PER_PAGE;
+        let mut places: Vec<u64> = match (self.wrong, self.page) {
+            (Some(Wrong::Forgets), _) => Vec::new(),
+            (Some(Wrong::ShortEnd), _) => (start..end - 1).collect(),
+            (Some(Wrong::ShortStart), _) => (start + 1..end).collect(),
+            (Some(Wrong::Half), _) if few => (0..lines.div_ceil(2)).collect(),
+            (Some(Wrong::NextPage), Some(page)) => own(page + 1).collect(),
+            (Some(Wrong::PageModLines), Some(page)) if !few => {
+                (0..LINES_PER_PAGE).map(|index| (page + index) % lines).collect()
+            }
+            (Some(Wrong::FirstPlaces), _) => (0..lines.min(LINES_PER_PAGE)).collect(),
+            (Some(Wrong::Falling), _) => (start..end).rev().collect(),
+            _ => (start..end).collect(),
+        };
+        if self.wrong == Some(Wrong::ByName) {
+            places.sort_by_key(|&place| board.record(place).name);
+        }
+        places.retain(|place| self.within.contains(place));
+        places
+    }
+
+    fn takes(&self, board: &Board, place: u64) -> bool {
+        let Record { name, line, valid, .. } = board.record(place);
+        let is = |wrong: Wrong| self.wrong == Some(wrong);
+        let named = |page: u64| match self.wrong {
+            Some(Wrong::AnyName) => true,
+            Some(Wrong::Alike) => page_of_name(name) % ALIKE == page % ALIKE,
+            Some(Wrong::LowBits) => page_of_name(name % NAMES_END) == page,
+            _ => page_of_name(name) == page,
+        };
+        self.page.map_or(true, named)
+            && (valid || is(Wrong::Invalid))
+            && (place_of(name, board.shape.lines) == place || is(Wrong::Strays))
+            && (inside(board, line) || is(Wrong::Beyond))
+    }
+
+    fn act(&self, board: &mut Board, place: u64) {
+        let record = board.record(place);
+        let left = match self.act {
+            Act::Drop => NOTHING,
+            Act::WriteBack(through) => {
+                let line = through.map_or(record.line, |frame| line_in(frame, record.name));
+                if record.changed && inside(board, line) {
+                    board.memory[line_bytes(line)].copy_from_slice(&board.cache[line_bytes(place)]);
+                }
+                NOTHING
+            }
+            Act::Permit(write) => Record { write, ..record },
+        };
+        put(board, place, left.encode());
+    }
+}
+
+const NOTHING: Record = Record { name: 0, line: 0, changed: false, write: false, valid: false };
