@@ -2,15 +2,9 @@
 use Prim.Native.Nat.{ℕ, _%_, _≤_, _<_}
 use mathlib.Core.Path.{_≡_}
 use mathlib.Core.Bool.{true}
-use lib.Count.{ones}
-use Rattle.board.specs.Shapes.{maxLines}
 use Rattle.ranges.specs.Ranges.{named}
 use Rattle.ranges.specs.declared.Names.{Names}
 use Rattle.ranges.specs.declared.Run.{Run}
-
--- one of the places of a cache with so many sets
-abbrev pub IsPlace : ℕ → ℕ → Type 0
-IsPlace sets place = (ones sets ≡ 1) × (sets ≤ maxLines) × (place < sets)
 
 -- one of these names has this place
 pub record HasPlace (sets : ℕ) (names : Names) (place : ℕ) : Type 0 where

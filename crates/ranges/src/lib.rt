@@ -7,7 +7,8 @@ ghost use Rattle.address.specs.Layout.{pageEnd};
 ghost use Rattle.pages.specs.Pages.{directPage};
 ghost use Rattle.board.specs.Shapes.{maxFrames};
 ghost use Rattle.ranges.specs.Ranges.{inRange, named, pageNames};
-ghost use Rattle.ranges.specs.Places.{IsPlace, NextRun};
+ghost use Rattle.ranges.specs.Places.{NextRun};
+ghost use Rattle.ranges.specs.Premises.{IsPlace};
 ghost use Rattle.ranges.specs.declared.Names.the-variants.{One};
 use address::PAGE_NAMES;
 
