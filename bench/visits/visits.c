@@ -74,8 +74,8 @@ static void prepare(const library *l, buffers *b, size_t lines) {
     b->lines = lines;
     const oaledva_pending none = {0, 0};
     for (size_t i = 0; i < HELD; i++) gave(l->map(LEND(b), PAGE + i, i, OALEDVA_WRITABLE), 0);
-    for (uint64_t at = 0; at < HELD * 4096; at += OALEDVA_LINE_BYTES)
-        gave(l->access(LEND(b), none, OALEDVA_LOAD, 4, PAGE * 4096 + at, 0), 0);
+    for (uint64_t at = 0; at < OALEDVA_MEMORY(HELD); at += OALEDVA_LINE_BYTES)
+        gave(l->access(LEND(b), none, OALEDVA_LOAD, 4, PAGE * OALEDVA_MEMORY(1) + at, 0), 0);
 }
 
 static void call(const library *l, buffers *b, int kind) {

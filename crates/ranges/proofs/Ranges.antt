@@ -5,6 +5,7 @@ use mathlib.Core.Bool.{Bool, true, false, _||_}
 use native.Mathlib.Omega.{arith}
 use lib.Dec.{leb, ltb, eqb}
 use borrow.Author.Tests.{ltb-true, ltb-false, leb-true, lt-ltb, le-ltb, le-leb, lt-leb, eqb-true, eqb-false}
+use Rattle.address.specs.Layout.{pageLines}
 use Rattle.board.proofs.Bools.{and-left, and-right}
 use Rattle.ranges.specs.Ranges.{inRange, named, pageNames, PageNames}
 use Rattle.ranges.specs.declared.Range.{Range}
@@ -51,13 +52,13 @@ unfolding named
 named-all names name k = rw k
 
 module _ (page name : ℕ) where
-  page-out : (name / 256 ≡ page → ⊥) → (t : Bool) → inRange (pageNames page) name ≡ t → t ≡ false
+  page-out : (name / pageLines ≡ page → ⊥) → (t : Bool) → inRange (pageNames page) name ≡ t → t ≡ false
   page-out n true k = absurd (n (omega (arith, in-least (pageNames page) name k, in-most (pageNames page) name k)))
   page-out n false k = refl
 
-  page-in : (t : Bool) → eqb (name / 256) page ≡ t → inRange (pageNames page) name ≡ t
-  page-in true e = let a : name / 256 ≡ page = eqb-true _ _ e in in-between (pageNames page) name (omega arith) (omega arith)
-  page-in false e = page-out (eqb-false (name / 256) page e) _ refl
+  page-in : (t : Bool) → eqb (name / pageLines) page ≡ t → inRange (pageNames page) name ≡ t
+  page-in true e = let a : name / pageLines ≡ page = eqb-true _ _ e in in-between (pageNames page) name (omega arith) (omega arith)
+  page-in false e = page-out (eqb-false (name / pageLines) page e) _ refl
 
 pub page-names : PageNames
 page-names page name = page-in page name _ refl
