@@ -48,7 +48,7 @@ const FIRST_SEGMENT: u64 = 2048;
 const LAST_SEGMENT: u64 = 4190207;
 
 // A page is below this.
-const PAGE_END: u64 = 4294967296;
+pub const PAGE_END: u64 = 4294967296;
 
 const FIRST_PAGE: u64 = 2097152;
 

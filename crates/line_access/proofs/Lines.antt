@@ -1,7 +1,8 @@
 -- Whether a value fits, the alignment of an access, and an access to a line, return by return.
-use Prim.Native.Nat.{ℕ, _+_, _*_, _/_, _%_, _^_, _<_, _≤_}
+use Prim.Native.Nat.{ℕ, zero, suc, _+_, _*_, _/_, _%_, _^_, _<_, _≤_}
 use mathlib.Core.Path.{_≡_, _∙_, refl, sym, ap}
-use mathlib.Core.Bool.{Bool, true, false, not, _&&_}
+use mathlib.Core.Bool.{Bool, true, false, not, _&&_, _||_}
+use mathlib.Core.Logic.{_⊎_, inl, inr}
 use mathlib.Core.List.{List, [], _∷_}
 use native.Mathlib.Nat.{div-one}
 use native.Mathlib.Omega.{arith}
@@ -12,7 +13,10 @@ use Rattle.address.specs.declared.Physical.{Physical}
 use Rattle.board.specs.Answers.{answer, markUncached, markOf}
 use Rattle.board.specs.declared.Answer.{Answer}
 use Rattle.board.specs.declared.Shape.{Shape}
+use Rattle.board.specs.Lists.{bit}
+use Rattle.board.proofs.Bools.{and-left, and-right}
 use Rattle.line_bytes.specs.Bytes.{number, stored}
+use Rattle.line_bytes.specs.Premises.{Width}
 use Rattle.stores.specs.Premises.{Sized}
 use Rattle.reach.specs.Reach.{wayOf, unreached, mayWrite}
 use Rattle.stores.specs.Stores.{Store, store, mustWriteBack, Performed, performed, performedAt, inserted}
@@ -21,50 +25,106 @@ use Rattle.reach.specs.declared.Way.{Way}
 use Rattle.reach.specs.declared.Way.the-variants.{Held, InMemory, Missing}
 use Rattle.lines.proofs.OneBit.{one-pos}
 use Rattle.reach.proofs.Reach.{way-held}
-use Rattle.machine.specs.Refusals.{row, byTable, tooLarge, alignedTo}
+use Rattle.machine.specs.Refusals.{row, byTable, isWidth, tooLarge, alignedTo}
 use Rattle.machine.specs.Accesses.{Reached, reached, stopped, reachedBy, performedOn, accessedBy, accessed, memoryAccess}
 use Rattle.line_access.specs.LineAccess.{lineAccess}
 use lib.Dec.{eqb, leb}
-use borrow.Author.Tests.{eqb-true, ne-eqb, lt-leb}
+use borrow.Author.Tests.{eqb-true, eqb-false, ne-eqb}
 
--- the value, width by width
+-- a width that may be is 1, 2 or 4, and the other way round
+is-width : (w : ℕ) → Width w → isWidth w ≡ true
+is-width zero h = absurd (omega (arith, h .low))
+is-width (suc zero) h = refl
+is-width (suc (suc zero)) h = refl
+is-width (suc (suc (suc zero))) h = absurd (h .not-three refl)
+is-width (suc (suc (suc (suc zero)))) h = refl
+is-width (suc (suc (suc (suc (suc w))))) h = absurd (omega (arith, h .high))
+
+pub width-is : (w : ℕ) → isWidth w ≡ true → Width w
+width-is w = go (eqb w 1) (eqb w 2) (eqb w 4) refl refl refl
+  where
+    one-of : w ≡ 1 ⊎ (w ≡ 2 ⊎ w ≡ 4) → Width w
+    one-of (inl e) = record { low = omega arith; high = omega arith; not-three = λ h. omega arith }
+    one-of (inr (inl e)) = record { low = omega arith; high = omega arith; not-three = λ h. omega arith }
+    one-of (inr (inr e)) = record { low = omega arith; high = omega arith; not-three = λ h. omega arith }
+
+    go : (x y z : Bool) → eqb w 1 ≡ x → eqb w 2 ≡ y → eqb w 4 ≡ z → (x || (y || z)) ≡ true → Width w
+    go true y z e f g h = one-of (inl (eqb-true _ _ e))
+    go false true z e f g h = one-of (inr (inl (eqb-true _ _ f)))
+    go false false true e f g h = one-of (inr (inr (eqb-true _ _ g)))
+    go false false false e f g h = absurd (let z : _≡_ {A = ℕ} 0 1 = cc in omega arith)
+
+-- 256^width, as the code shifts it
+shift-end : (w : ℕ) → w ≤ 4 → 1 * 2 ^ (8 * w) % 2 ^ 64 ≡ 256 ^ w
+shift-end zero h = refl
+shift-end (suc zero) h = refl
+shift-end (suc (suc zero)) h = refl
+shift-end (suc (suc (suc zero))) h = refl
+shift-end (suc (suc (suc (suc zero)))) h = refl
+shift-end (suc (suc (suc (suc (suc w))))) h = absurd (omega arith)
+
 module _ (a : Access) where
-  pub large-one : a .width ≡ 1 → (a .store && leb 256 (a .value)) ≡ tooLarge a
+  pub large-shifted : Width (a .width) → (a .store && leb (1 * 2 ^ (8 * a .width) % 2 ^ 64) (a .value)) ≡ tooLarge a
   unfolding tooLarge
-  large-one w = rw w
+  large-shifted h = rw (shift-end (a .width) (h .high), is-width (a .width) h)
 
-  pub large-two : a .width ≡ 2 → (a .store && leb 65536 (a .value)) ≡ tooLarge a
+  pub large-none : isWidth (a .width) ≡ false → false ≡ tooLarge a
   unfolding tooLarge
-  large-two w = rw w
-
-  pub large-else : (a .width ≡ 1 → ⊥) → (a .width ≡ 2 → ⊥) → a .value < 2 ^ 32 → false ≡ tooLarge a
-  unfolding tooLarge
-  large-else n m h = rw (ne-eqb _ _ n, ne-eqb _ _ m) (go (a .store) (eqb (a .width) 4) refl)
+  large-none h = rw h (go (a .store))
     where
-      go : (t f : Bool) → eqb (a .width) 4 ≡ f → false ≡ (t && (f && leb (256 ^ a .width) (a .value)))
-      go true true e = let w : a .width ≡ 4 = eqb-true _ _ e in rw (w, lt-leb _ _ h)
-      go true false e = refl
-      go false f e = refl
+      go : (t : Bool) → false ≡ (t && false)
+      go true = refl
+      go false = refl
 
--- alignment, width by width
-module _ (width at : ℕ) where
-  pub aligned-one : width ≡ 1 → true ≡ alignedTo width at
+-- alignment: by the bit of a table
+module _ (at : ℕ) where
+  -- a number is a multiple of a width if what it leaves mod 4 is
+  rest-aligned : (width : ℕ) → alignedTo width at ≡ alignedTo width (at % 4)
   unfolding alignedTo
-  aligned-one e =
-      let z : at % 1 ≡ 0 = omega arith in
-      rw (e, z)
+  rest-aligned width = go (eqb width 1) (eqb width 2) (eqb width 4) refl refl refl
+    where
+      go : (x y z : Bool) → eqb width 1 ≡ x → eqb width 2 ≡ y → eqb width 4 ≡ z
+          → ((x || (y || z)) && eqb (at % width) 0) ≡ ((x || (y || z)) && eqb (at % 4 % width) 0)
+      go true y z e f g = let w : width ≡ 1 = eqb-true _ _ e in let q : at % 1 ≡ at % 4 % 1 = omega arith in rw (w, q)
+      go false true z e f g = let w : width ≡ 2 = eqb-true _ _ f in let q : at % 2 ≡ at % 4 % 2 = omega arith in rw (w, q)
+      go false false true e f g = let w : width ≡ 4 = eqb-true _ _ g in let q : at % 4 ≡ at % 4 % 4 = omega arith in rw w (ap (λ (x : ℕ). eqb x 0) q)
+      go false false false e f g = refl
 
-  pub aligned-two : width ≡ 2 → eqb (at % 2) 0 ≡ alignedTo width at
+  pub aligned-none : (width : ℕ) → 8 ≤ width → false ≡ alignedTo width at
   unfolding alignedTo
-  aligned-two e = rw e
+  aligned-none width h = rw (ne-eqb width 1 (λ e. omega arith), ne-eqb width 2 (λ e. omega arith), ne-eqb width 4 (λ e. omega arith))
 
-  pub aligned-four : width ≡ 4 → eqb (at % 4) 0 ≡ alignedTo width at
-  unfolding alignedTo
-  aligned-four e = rw e
+-- the table's bits, checked one by one
+everyBelow : ℕ → (ℕ → Bool) → Bool
+everyBelow zero f = true
+everyBelow (suc n) f = f n && everyBelow n f
 
-  pub aligned-none : (width ≡ 1 → ⊥) → (width ≡ 2 → ⊥) → (width ≡ 4 → ⊥) → false ≡ alignedTo width at
-  unfolding alignedTo
-  aligned-none n m l = rw (ne-eqb _ _ n, ne-eqb _ _ m, ne-eqb _ _ l)
+every-below : (n : ℕ) (f : ℕ → Bool) → everyBelow n f ≡ true → (k : ℕ) → k < n → f k ≡ true
+unfolding everyBelow
+every-below zero f e k h = absurd (omega arith)
+every-below (suc n) f e k h = go (every-below n f (and-right (f n) _ e) k) (eqb k n) refl
+  where
+    go : (k < n → f k ≡ true) → (t : Bool) → eqb k n ≡ t → f k ≡ true
+    go below true q = let z : k ≡ n = eqb-true _ _ q in rw z (and-left (f n) _ e)
+    go below false q = let z : k ≡ n → ⊥ = eqb-false k n q in below (omega (arith, z))
+
+tableRight : ℕ → ℕ → Bool
+tableRight width rest = eqb (67056 / 2 ^ (4 * width + rest) % 2) (bit (alignedTo width rest))
+
+table-right : everyBelow 8 (λ width. everyBelow 4 (tableRight width)) ≡ true
+unfolding everyBelow tableRight alignedTo
+table-right = refl
+
+pub aligned-bit : (width at : ℕ) → width < 8 → eqb (67056 / 2 ^ (4 * width + at % 4) % 2) 1 ≡ alignedTo width at
+unfolding tableRight
+aligned-bit width at h =
+    let r = every-below 4 (tableRight width) (every-below 8 (λ w. everyBelow 4 (tableRight w)) table-right width h) (at % 4) (omega arith) in
+    let e : 67056 / 2 ^ (4 * width + at % 4) % 2 ≡ bit (alignedTo width (at % 4)) = eqb-true _ _ r in
+    ap (λ (x : ℕ). eqb x 1) e ∙ (go (alignedTo width (at % 4)) ∙ sym (rest-aligned at width))
+  where
+    go : (t : Bool) → eqb (bit t) 1 ≡ t
+    go true = refl
+    go false = refl
 
 pub performed-on : (r c m : List ℕ) (i offset : ℕ) (a : Access) (held back : Bool) (mark v : ℕ) (x : Answer) (r₁ c₁ : List ℕ)
     → performed v r₁ c₁ ≡ performedAt i offset a r c → mark ≡ markOf held back → x ≡ answer 0 v mark
@@ -98,8 +158,8 @@ module _ (s : Shape) (words r c m : List ℕ) (name i : ℕ) (write : Bool) (w :
   pub held-record : 2 * i + 2 ≤ length r
   held-record = omega (arith, held-inside)
 
-  pub held-bytes : (g : Global) (width : ℕ) → g .0 % 16 + width ≤ 16 → 16 * i + g .0 % 16 + width ≤ length c
-  held-bytes g width h = omega (arith, held-inside)
+  pub held-bytes : 16 * i + 16 ≤ length c
+  held-bytes = omega (arith, held-inside)
 
 module _ (s : Shape) (words r c m : List ℕ) (g : Global) (user : Bool) (a : Access) (w : Way) (e : w ≡ wayOf 1 s words r (nameOf g)) where
   line-on : lineBy s (nameOf g) (g .0 % 16) user a (store r c m) w ≡ lineAccess s words g user a (store r c m)

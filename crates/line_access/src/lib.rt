@@ -1,11 +1,11 @@
 // What user and supervisor accesses share: whether the value fits, the alignment, an access to a line, hit or miss, and one
 // past the cache.
 ghost use mathlib.Core.Path.{_≡_};
-ghost use Prim.Native.Nat.{_+_, _*_, _%_, _≤_};
+ghost use Prim.Native.Nat.{_+_, _*_, _/_, _≤_, _<_};
 ghost use lib.ListN.{length};
 ghost use Rattle.address.specs.Layout.{lineBytes};
 ghost use Rattle.board.specs.Answers.{markOf};
-ghost use Rattle.line_bytes.specs.Premises.{Width};
+ghost use Rattle.line_bytes.specs.Premises.{Width, InWord};
 ghost use Rattle.stores.specs.Premises.{Sized};
 ghost use Rattle.stores.specs.Lent.{storeBefore, storeAfter};
 ghost use Rattle.machine.specs.Refusals.{tooLarge, alignedTo};
@@ -24,32 +24,37 @@ use board::numbered;
 use reach::Way;
 use stores::Access;
 
-// A store's value is 256^width or more. Four bytes take every value that a caller can bring; for a bad width the value isn't
-// asked, and of a load never.
+// A store's value is 256^width or more, of a width that may be.
+pub fn overflows(a: Access) -> bool
+    requires { ⌜ Width (a .width) ⌝ }
+    ensures { λ r. ⌜ r ≡ tooLarge a ⌝ }
+{
+    let end: u64 = 1 << (8 * a.width);
+    a.store & (a.value as u64 >= end)
+}
+
+// The same of any width. For a bad one the value isn't asked, and of a load never.
 pub fn too_large(a: Access) -> bool
     ensures { λ r. ⌜ r ≡ tooLarge a ⌝ }
 {
-    if a.width == 1 {
-        return a.store & (a.value >= 256);
-    }
-    if a.width == 2 {
-        return a.store & (a.value >= 65536);
+    let width = a.width;
+    if (width == 1) | ((width == 2) | (width == 4)) {
+        return overflows(a);
     }
     false
 }
+
+// Which numbers are multiples of which widths, by what they leave mod 4: bit 4 * width + rest. All are of 1, those that leave 0
+// or 2 are of 2, those that leave 0 are of 4. One shift costs the same for every width, and needs no branch between them.
+const MULTIPLES: u32 = 67056;
 
 // The width is 1, 2 or 4, and the number a multiple of it.
 fn aligned(width: u32, at: u64) -> bool
     ensures { λ r. ⌜ r ≡ alignedTo width at ⌝ }
 {
-    if width == 1 {
-        return true;
-    }
-    if width == 2 {
-        return at % 2 == 0;
-    }
-    if width == 4 {
-        return at % 4 == 0;
+    if width < 8 {
+        let bit = 4 * width + (at % 4) as u32;
+        return (MULTIPLES >> bit) % 2 == 1;
     }
     false
 }
@@ -79,7 +84,7 @@ fn perform_on(
     held: bool,
     back: bool,
 ) -> Answer
-    requires { ⌜ (2 * i + 2 ≤ length (now records)) × (16 * i + offset + a .width ≤ length (now cache)) × Width (a .width) ⌝ }
+    requires { ⌜ (2 * i + 2 ≤ length (now records)) × (lineBytes * i + lineBytes ≤ length (now cache)) × (offset < lineBytes) × InWord offset (a .width) × Width (a .width) ⌝ }
     ensures { λ r. ⌜ ended r (storeAfter records cache memory) ≡ performedOn i offset a (markOf held back) (storeBefore records cache memory) ⌝ }
 {
     let value = stores::perform(records, cache, i, offset, a);
@@ -97,7 +102,7 @@ pub fn line_access(
     user: bool,
     a: Access,
 ) -> Answer
-    requires { ⌜ Sized s (now records) (now cache) (now memory) × (length (now words) ≡ s .frames) × Width (a .width) × (g .0 % lineBytes + a .width ≤ lineBytes) ⌝ }
+    requires { ⌜ Sized s (now records) (now cache) (now memory) × (length (now words) ≡ s .frames) × Width (a .width) × InWord (g .0) (a .width) ⌝ }
     ensures { λ r. ⌜ ended r (storeAfter records cache memory) ≡ lineAccess s (now (words .entry)) g user a (storeBefore records cache memory) ⌝ }
 {
     match reach::way_to(s, words, records, g) {
@@ -131,7 +136,7 @@ pub fn memory_access(
     p: Physical,
     a: Access,
 ) -> Answer
-    requires { ⌜ (p .0 + a .width ≤ length (now memory)) × Width (a .width) ⌝ }
+    requires { ⌜ (p .0 / 4 * 4 + 4 ≤ length (now memory)) × InWord (p .0) (a .width) × Width (a .width) ⌝ }
     ensures { λ r. ⌜ ended r (storeAfter records cache memory) ≡ memoryAccess p a (storeBefore records cache memory) ⌝ }
 {
     let at = p.0 as usize;

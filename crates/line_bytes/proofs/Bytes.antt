@@ -1,6 +1,6 @@
 -- Numbers in bytes, width by width, as the code reads and writes them.
-use Prim.Native.Nat.{ℕ, zero, suc, _+_, _*_, _-_, _/_, _%_, _≤_}
-use mathlib.Core.Path.{_≡_, refl}
+use Prim.Native.Nat.{ℕ, zero, suc, _+_, _*_, _-_, _/_, _%_, _^_, _≤_, _<_}
+use mathlib.Core.Path.{_≡_, _∙_, refl, sym, ap}
 use mathlib.Core.List.{List, _++_}
 use native.Mathlib.Nat.{add-zero, add-sub-cancel-left, div-one}
 use native.Mathlib.Numerals.{add-one}
@@ -29,15 +29,62 @@ module _ (bytes : List ℕ) (at : ℕ) where
     unfolding number
     number-one a w e = rw (w, e) (simp add-zero (omega arith))
 
-    pub number-two : (a : ℕ) → width ≡ 2 → a ≡ number bytes at 2 → a ≡ number bytes at width
-    number-two a w e = rw w e
-
     pub number-four : (a b : ℕ) → Width width → (width ≡ 1 → ⊥) → (width ≡ 2 → ⊥) → a ≡ number bytes at 2 → b ≡ number bytes (at + 2) 2
         → a * 65536 + b ≡ number bytes at width
     unfolding number
     number-four a b h n m e f =
         let z : at + 2 + 1 ≡ at + 3 = omega arith in
         rw (width-four width h n m, e, f, z) (simp add-zero (omega arith))
+
+-- a number read from the aligned word that it lies in, of which a and b are the halves
+module _ (bytes : List ℕ) (base a b : ℕ) (e : a ≡ number bytes base 2) (f : b ≡ number bytes (base + 2) 2) (la : a < 65536) (lb : b < 65536)
+    (l₁ : getD bytes (base + 1) 0 < 256) (l₃ : getD bytes (base + 2 + 1) 0 < 256) where
+  high-pair : a ≡ getD bytes base 0 * 256 + getD bytes (base + 1) 0
+  high-pair = e ∙ sym (number-pair bytes base _ _ refl refl)
+
+  low-pair : b ≡ getD bytes (base + 2) 0 * 256 + getD bytes (base + 2 + 1) 0
+  low-pair = f ∙ sym (number-pair bytes (base + 2) _ _ refl refl)
+
+  abbrev shifted : ℕ → ℕ → ℕ
+  shifted before width = (a * 65536 + b) * 2 ^ (before * 8) % 2 ^ 32 / 2 ^ (32 - 8 * width)
+
+  -- width by width, by how many bytes stand before it
+  one-in : (before at : ℕ) → at ≡ base + before → before + 1 ≤ 4 → shifted before 1 ≡ number bytes at 1
+  one-in zero at z h = let q : at ≡ base = omega arith in number-one bytes at 1 _ refl (rw q (omega (arith, high-pair)))
+  one-in (suc zero) at z h = number-one bytes at 1 _ refl (rw z (omega (arith, high-pair)))
+  one-in (suc (suc zero)) at z h = number-one bytes at 1 _ refl (rw z (omega (arith, low-pair)))
+  one-in (suc (suc (suc zero))) at z h = let q : at ≡ base + 2 + 1 = omega arith in number-one bytes at 1 _ refl (rw q (omega (arith, low-pair)))
+  one-in (suc (suc (suc (suc before)))) at z h = absurd (omega arith)
+
+  two-in : (before at : ℕ) → at ≡ base + before → before + 2 ≤ 4 → shifted before 2 ≡ number bytes at 2
+  two-in zero at z h =
+      let q : at ≡ base = omega arith in let k : shifted 0 2 ≡ a = omega arith in
+      rw q (k ∙ e)
+  two-in (suc zero) at z h =
+      let q : base + 1 + 1 ≡ base + 2 = omega arith in
+      let k : shifted 1 2 ≡ getD bytes (base + 1) 0 * 256 + getD bytes (base + 2) 0 = omega (arith, high-pair, low-pair) in
+      rw z (k ∙ number-pair bytes (base + 1) _ _ refl (ap (λ (x : ℕ). getD bytes x 0) (sym q)))
+  two-in (suc (suc zero)) at z h = let k : shifted 2 2 ≡ b = omega arith in rw z (k ∙ f)
+  two-in (suc (suc (suc before))) at z h = absurd (omega arith)
+
+  four-in : (before at : ℕ) → at ≡ base + before → before + 4 ≤ 4 → Width 4 → shifted before 4 ≡ number bytes at 4
+  four-in zero at z h w =
+      let q : at ≡ base = omega arith in let k : shifted 0 4 ≡ a * 65536 + b = omega arith in
+      rw q (k ∙ number-four bytes base 4 a b w (λ x. omega arith) (λ x. omega arith) e f)
+  four-in (suc before) at z h w = absurd (omega arith)
+
+  in-word : (before width at : ℕ) → at ≡ base + before → before + width ≤ 4 → Width width → shifted before width ≡ number bytes at width
+  in-word before zero at z h w = absurd (omega (arith, w .low))
+  in-word before (suc zero) at z h w = one-in before at z h
+  in-word before (suc (suc zero)) at z h w = two-in before at z h
+  in-word before (suc (suc (suc zero))) at z h w = absurd (w .not-three refl)
+  in-word before (suc (suc (suc (suc zero)))) at z h w = four-in before at z h w
+  in-word before (suc (suc (suc (suc (suc width))))) at z h w = absurd (omega (arith, w .high))
+
+pub number-in-word : (bytes : List ℕ) (at width a b : ℕ) → a ≡ number bytes (at / 4 * 4) 2 → b ≡ number bytes (at / 4 * 4 + 2) 2 → a < 65536 → b < 65536
+    → getD bytes (at / 4 * 4 + 1) 0 < 256 → getD bytes (at / 4 * 4 + 2 + 1) 0 < 256 → at % 4 + width ≤ 4 → Width width
+    → (a * 65536 + b) * 2 ^ (at % 4 * 8) % 2 ^ 32 / 2 ^ (32 - 8 * width) ≡ number bytes at width
+number-in-word bytes at width a b e f la lb l₁ l₃ h w = in-word bytes (at / 4 * 4) a b e f la lb l₁ l₃ (at % 4) width at (omega arith) h w
 
 module _ (bytes : List ℕ) (at width value : ℕ) where
   pub stored-one : width ≡ 1 → set bytes at (value % 256) ≡ stored bytes at width value

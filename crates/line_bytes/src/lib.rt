@@ -1,10 +1,10 @@
 // Bytes: numbers in them, the most significant byte first, lines of sixteen, and frames filled with zeros.
 ghost use mathlib.Core.Path.{_≡_};
-ghost use Prim.Native.Nat.{_+_, _*_, _≤_, _<_};
-ghost use lib.ListN.{length};
+ghost use Prim.Native.Nat.{_+_, _*_, _/_, _≤_, _<_};
+ghost use lib.ListN.{length, getD};
 ghost use Rattle.address.specs.Layout.{pageBytes, lineBytes};
 ghost use Rattle.line_bytes.specs.Bytes.{number, stored, lineOf, withLine, zeros, zeroedFrame};
-ghost use Rattle.line_bytes.specs.Premises.{Width};
+ghost use Rattle.line_bytes.specs.Premises.{Width, InWord};
 use board::LINE_BYTES;
 use board::PAGE_BYTES;
 
@@ -14,26 +14,24 @@ fn wide(x: u8) -> u32
     x as u32
 }
 
-// The number of two bytes.
+// The number of two bytes. The last fact is for who takes the two apart again.
 fn pair(bytes: &[u8], at: usize) -> u32
     requires { ⌜ at + 2 ≤ length (now bytes) ⌝ }
-    ensures { λ r. ⌜ (r ≡ number (now (bytes .entry)) at 2) × (r < 65536) ⌝ }
+    ensures { λ r. ⌜ (r ≡ number (now (bytes .entry)) at 2) × (r < 65536) × (getD (now (bytes .entry)) (at + 1) 0 < 256) ⌝ }
 {
     wide(bytes[at]) * 256 + wide(bytes[at + 1])
 }
 
-// The number in `width` bytes, the most significant first.
+// The number in `width` bytes, the most significant first: by the aligned word that they lie in, so that every width costs the
+// same and the compiler needs no branch.
 pub fn load_bytes(bytes: &[u8], at: usize, width: u32) -> u32
-    requires { ⌜ (at + width ≤ length (now bytes)) × Width width ⌝ }
+    requires { ⌜ (at / 4 * 4 + 4 ≤ length (now bytes)) × InWord at width × Width width ⌝ }
     ensures { λ r. ⌜ r ≡ number (now (bytes .entry)) at width ⌝ }
 {
-    if width == 1 {
-        return wide(bytes[at]);
-    }
-    if width == 2 {
-        return pair(bytes, at);
-    }
-    pair(bytes, at) * 65536 + pair(bytes, at + 2)
+    let base = at / 4 * 4;
+    let word = pair(bytes, base) * 65536 + pair(bytes, base + 2);
+    let before = (at % 4) as u32 * 8;
+    (word << before) >> (32 - 8 * width)
 }
 
 // Puts the bytes of a value below 256^width (number 2 has refused any other), the most significant first.

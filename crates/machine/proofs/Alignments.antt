@@ -1,4 +1,4 @@
--- An aligned access has a width that may be, and stays inside its line.
+-- An aligned access has a width that may be, and stays inside its line and its aligned word.
 use Prim.Native.Nat.{ℕ, _+_, _%_, _≤_}
 use mathlib.Core.Path.{_≡_, refl}
 use mathlib.Core.Bool.{Bool, true, false, _||_}
@@ -6,26 +6,27 @@ use native.Mathlib.Omega.{arith}
 use lib.Dec.{eqb}
 use borrow.Author.Tests.{eqb-true}
 use Rattle.board.proofs.Bools.{and-left, and-right}
-use Rattle.line_bytes.specs.Premises.{Width}
+use Rattle.line_bytes.specs.Premises.{Width, InWord}
 use Rattle.machine.specs.Refusals.{alignedTo}
 
 pub record Aligned (width at : ℕ) : Type 0 where
   pub wide : Width width
   pub inside : at % 16 + width ≤ 16
+  pub in-word : InWord at width
 
 module _ (width at : ℕ) where
   as-one : width ≡ 1 → Aligned width at
-  as-one e = record { wide = record { low = omega arith; high = omega arith; not-three = λ h. omega arith }; inside = omega arith }
+  as-one e = record { wide = record { low = omega arith; high = omega arith; not-three = λ h. omega arith }; inside = omega arith; in-word = omega arith }
 
   as-two : width ≡ 2 → at % width ≡ 0 → Aligned width at
   as-two e h =
       let z : at % 2 ≡ 0 = rw e at h in
-      record { wide = record { low = omega arith; high = omega arith; not-three = λ k. omega arith }; inside = omega arith }
+      record { wide = record { low = omega arith; high = omega arith; not-three = λ k. omega arith }; inside = omega arith; in-word = omega arith }
 
   as-four : width ≡ 4 → at % width ≡ 0 → Aligned width at
   as-four e h =
       let z : at % 4 ≡ 0 = rw e at h in
-      record { wide = record { low = omega arith; high = omega arith; not-three = λ k. omega arith }; inside = omega arith }
+      record { wide = record { low = omega arith; high = omega arith; not-three = λ k. omega arith }; inside = omega arith; in-word = omega arith }
 
   as-widths : (x y z : Bool) → eqb width 1 ≡ x → eqb width 2 ≡ y → eqb width 4 ≡ z → (x || (y || z)) ≡ true → at % width ≡ 0 → Aligned width at
   as-widths true y z e f g h k = as-one (eqb-true _ _ e)

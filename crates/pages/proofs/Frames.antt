@@ -4,16 +4,18 @@ use mathlib.Core.Bool.{Bool, true, false, not, _&&_, cond}
 use mathlib.Core.Path.{_≡_, _∙_, sym, refl, ap}
 use mathlib.Core.List.{List, [], _∷_}
 use native.Mathlib.Omega.{arith}
+use native.Mathlib.Nat.{add-zero}
 use native.Mathlib.Numerals.{add-one}
 use lib.Dec.{eqb, leb, ltb}
 use lib.ListN.{length, getD, drop, drop-of-length-le, length-drop}
 use lib.Seq.{drop-cons}
-use borrow.Author.Tests.{eq-eqb, ne-eqb, ltb-true, leb-true}
-use Rattle.address.specs.Layout.{pageLines, prefixLines, firstPage, lastPage}
+use borrow.Author.Tests.{eq-eqb, ne-eqb, ltb-true, ltb-false, leb-true}
+use Rattle.address.specs.Layout.{pageLines, prefixLines, pageEnd, firstPage, lastPage}
 use Rattle.address.specs.Addresses.{pageOf, nameOf, physicalLineOf, frameOfPhysical, prefixOf, physicalOf, inFrame, ordinaryPage, pageOfName}
 use Rattle.address.specs.declared.Global.{Global}
 use Rattle.address.specs.declared.Physical.{Physical}
 use Rattle.pages.specs.Pages.{namesPage, wordWrites, lowestFrom, lowestFrame, mappedTo, freeFrame, directFrame, directHome, lineIn, homeBy, homeOf}
+use Rattle.pages.specs.Scans.{NoneOf}
 use Rattle.board.specs.declared.Shape.{Shape}
 use Rattle.board.specs.declared.Found.{Found}
 use Rattle.board.specs.declared.Found.the-variants.{At, Nothing}
@@ -39,48 +41,59 @@ module _ (ws : List ℕ) (f page : ℕ) where
   unfolding lowestFrom
   low-end h = rw drop-of-length-le
 
--- where four words stand from f up, each of them is one of the words
-module _ (f n : ℕ) (h : f ≤ n) (four : 4 ≤ n - f) where
-  pub four-first : f < n
-  four-first = omega arith
+  pub low-beyond : length ws < f → Nothing ≡ lowestFrame ws f page
+  unfolding lowestFrame
+  low-beyond h = sym (low-end (omega arith))
 
-  pub four-next : (k : ℕ) → k < 4 → f + k < n
-  four-next k low = omega arith
+-- where so many words stand from f up, each of them is one of the words
+module _ (f n : ℕ) (h : f ≤ n) (eight : 8 ≤ n - f) where
+  pub eight-all : f + 8 ≤ n
+  eight-all = omega arith
 
-  pub four-all : f + 4 ≤ n
-  four-all = omega arith
-
+-- words that name other pages are passed
 module _ (ws : List ℕ) (page : ℕ) where
-  -- a word that names another page is passed
-  step : (g k : ℕ) → k ≡ g + 1 → g < length ws → (getD ws g 0 / 4 ≡ page → ⊥) → lowestFrom (drop g ws) g page ≡ lowestFrom (drop k ws) k page
-  step g k q h n = rw q (low-next ws g page h (λ e. n (omega (arith, e))) (λ e. n (omega (arith, e))))
+  pub low-others : (n f : ℕ) → f + n ≤ length ws → NoneOf ws page f n → lowestFrom (drop f ws) f page ≡ lowestFrom (drop (f + n) ws) (f + n) page
+  low-others zero f h o = rw add-zero refl
+  low-others (suc n) f h o =
+      let first = o f (omega arith) (omega arith) in
+      let z : f + suc n ≡ f + 1 + n = omega arith in
+      low-next ws f page (omega arith) (λ e. first (omega (arith, e))) (λ e. first (omega (arith, e)))
+      ∙ rw z (low-others n (f + 1) (omega arith) (λ k low high. o k (omega arith) (omega arith)))
 
-  pub low-4 : (f : ℕ) → f + 4 ≤ length ws → ((k : ℕ) → f ≤ k → k < f + 4 → getD ws k 0 / 4 ≡ page → ⊥)
-      → lowestFrom (drop f ws) f page ≡ lowestFrom (drop (f + 4) ws) (f + 4) page
-  low-4 f h n =
-      step f (f + 1) refl (omega arith) (n f (omega arith) (omega arith))
-      ∙ (step (f + 1) (f + 2) (omega arith) (omega arith) (n (f + 1) (omega arith) (omega arith))
-      ∙ (step (f + 2) (f + 3) (omega arith) (omega arith) (n (f + 2) (omega arith) (omega arith))
-      ∙ step (f + 3) (f + 4) (omega arith) (omega arith) (n (f + 3) (omega arith) (omega arith))))
+not-eq : (a b : ℕ) → not (eqb a b) ≡ true → a ≡ b → ⊥
+not-eq a b e q = let z : _≡_ {A = Bool} (eqb a b) true = eq-eqb a b q in let y : _≡_ {A = ℕ} 0 1 = cc in omega arith
 
-  not-eq : (a b : ℕ) → not (eqb a b) ≡ true → a ≡ b → ⊥
-  not-eq a b e q = let z : _≡_ {A = Bool} (eqb a b) true = eq-eqb a b q in let y : _≡_ {A = ℕ} 0 1 = cc in omega arith
+-- words that differ in some bits are not equal
+pub other-bits : (word page : ℕ) → not (eqb (word / 4 % pageEnd) (page % pageEnd)) ≡ true → word / 4 ≡ page → ⊥
+other-bits word page e q = not-eq (word / 4 % pageEnd) (page % pageEnd) e (ap (λ (x : ℕ). x % pageEnd) q)
 
-  abbrev o : ℕ → Bool
-  o g = not (eqb (getD ws g 0 / 4) page)
+-- the four tests at once, and two fours
+module _ (ws : List ℕ) (page f : ℕ) where
+  pub four-other : (a b c d : Bool) → (a ≡ true → getD ws f 0 / 4 ≡ page → ⊥) → (b ≡ true → getD ws (f + 1) 0 / 4 ≡ page → ⊥)
+      → (c ≡ true → getD ws (f + 2) 0 / 4 ≡ page → ⊥) → (d ≡ true → getD ws (f + 3) 0 / 4 ≡ page → ⊥)
+      → (a && (b && (c && d))) ≡ true → NoneOf ws page f 4
+  four-other a b c d oa ob oc od e k low high = go (k - f) (omega arith) (omega arith)
+    where
+      eb : (b && (c && d)) ≡ true
+      eb = and-right a _ e
 
-  -- the four tests at once
-  others : (f j k : ℕ) → k ≡ f + j → j < 4 → (o f && (o (f + 1) && (o (f + 2) && o (f + 3)))) ≡ true → o k ≡ true
-  others f zero k q h e = let z : k ≡ f = omega arith in rw z (and-left (o f) _ e)
-  others f (suc zero) k q h e = let z : k ≡ f + 1 = omega arith in rw z (and-left (o (f + 1)) _ (and-right (o f) _ e))
-  others f (suc (suc zero)) k q h e =
-      let z : k ≡ f + 2 = omega arith in rw z (and-left (o (f + 2)) _ (and-right (o (f + 1)) _ (and-right (o f) _ e)))
-  others f (suc (suc (suc zero))) k q h e =
-      let z : k ≡ f + 3 = omega arith in rw z (and-right (o (f + 2)) _ (and-right (o (f + 1)) _ (and-right (o f) _ e)))
-  others f (suc (suc (suc (suc j)))) k q h e = absurd (omega arith)
+      ec : (c && d) ≡ true
+      ec = and-right b _ eb
 
-  pub clear-4 : (f : ℕ) → (o f && (o (f + 1) && (o (f + 2) && o (f + 3)))) ≡ true → (k : ℕ) → f ≤ k → k < f + 4 → getD ws k 0 / 4 ≡ page → ⊥
-  clear-4 f e k low high = not-eq (getD ws k 0 / 4) page (others f (k - f) k (omega arith) (omega arith) e)
+      go : (j : ℕ) → k ≡ f + j → j < 4 → getD ws k 0 / 4 ≡ page → ⊥
+      go zero q h = let z : k ≡ f = omega arith in rw z (oa (and-left a _ e))
+      go (suc zero) q h = let z : k ≡ f + 1 = omega arith in rw z (ob (and-left b _ eb))
+      go (suc (suc zero)) q h = let z : k ≡ f + 2 = omega arith in rw z (oc (and-left c _ ec))
+      go (suc (suc (suc zero))) q h = let z : k ≡ f + 3 = omega arith in rw z (od (and-right c _ ec))
+      go (suc (suc (suc (suc j)))) q h = absurd (omega arith)
+
+  pub eight-other : (low high : Bool) → (low ≡ true → NoneOf ws page f 4) → (high ≡ true → NoneOf ws page (f + 4) 4)
+      → (low && high) ≡ true → NoneOf ws page f 8
+  eight-other low high ol oh e k from to = go (ltb k (f + 4)) refl
+    where
+      go : (t : Bool) → ltb k (f + 4) ≡ t → getD ws k 0 / 4 ≡ page → ⊥
+      go true h = ol (and-left low _ e) k from (ltb-true k (f + 4) h)
+      go false h = oh (and-right low _ e) k (ltb-false k (f + 4) h) (omega arith)
 
 either : (b : Bool) (f g n : ℕ) (rest : Found) → cond b (At f) rest ≡ At g → (rest ≡ At g → (suc f ≤ g) × (g < suc f + n)) → (f ≤ g) × (g < f + suc n)
 either true f g n rest e r = let z : f ≡ g = cc in omega arith

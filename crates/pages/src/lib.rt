@@ -1,12 +1,14 @@
 // 01, "The board": the frame words, and the page map that they make.
 ghost use mathlib.Core.Path.{_≡_};
 ghost use mathlib.Core.Bool.{true};
-ghost use Prim.Native.Nat.{ℕ, _+_, _/_, _≤_, _<_, _^_};
-ghost use lib.ListN.{length, getD};
+ghost use Prim.Native.Nat.{_+_, _/_, _≤_, _<_, _^_};
+ghost use lib.ListN.{length};
 ghost use Rattle.address.specs.Addresses.{nameOf};
 ghost use Rattle.board.specs.Shapes.{maxFrames};
+ghost use Rattle.pages.specs.Scans.{NoneOf};
 ghost use Rattle.pages.specs.Pages.{frameWord, wordWrites, lowestFrame, mappedTo, freeFrame, directHome, homeOf};
 use address::Global;
+use address::PAGE_END;
 use address::ordinary_page;
 use board::Found;
 use board::Home;
@@ -28,40 +30,60 @@ pub fn word_writes(word: u64) -> bool
     word / 2 % 2 == 1
 }
 
-// There are four words from `f` up, and none of them names the page.
-fn clear_of(words: &[u64], f: usize, page: u64) -> bool
-    requires { ⌜ f ≤ length (now words) ⌝ }
-    ensures { λ r. ⌜ (r ≡ true → (f + 4 ≤ length (now (words .entry))) × ((k : ℕ) → f ≤ k → k < f + 4 → getD (now (words .entry)) k 0 / 4 ≡ page → ⊥)) ⌝ }
+// The word is none of the page's four, by 32 of its bits: so the compiler can compare several words at once. A word of no form
+// may seem to be one.
+fn not_of(word: u64, page: u64) -> bool
+    ensures { λ r. ⌜ (r ≡ true → word / 4 ≡ page → ⊥) ⌝ }
 {
-    if words.len() - f < 4 {
-        return false;
-    }
-    let a = words[f] / 4 != page;
-    let b = words[f + 1] / 4 != page;
-    let c = words[f + 2] / 4 != page;
-    let d = words[f + 3] / 4 != page;
+    (word / 4 % PAGE_END) as u32 != (page % PAGE_END) as u32
+}
+
+// None of the four words from `f` up is one of the page's.
+fn none_of_four(words: &[u64], f: usize, page: u64) -> bool
+    requires { ⌜ f + 4 ≤ length (now words) ⌝ }
+    ensures { λ r. ⌜ (r ≡ true → NoneOf (now (words .entry)) page f 4) ⌝ }
+{
+    let a = not_of(words[f], page);
+    let b = not_of(words[f + 1], page);
+    let c = not_of(words[f + 2], page);
+    let d = not_of(words[f + 3], page);
     a & (b & (c & d))
 }
 
-// The lowest frame from `u` up whose word names the page.
+// There are eight words from `f` up, and none of them is one of the page's.
+fn clear_of(words: &[u64], f: usize, page: u64) -> bool
+    requires { ⌜ f ≤ length (now words) ⌝ }
+    ensures { λ r. ⌜ (r ≡ true → (f + 8 ≤ length (now (words .entry))) × NoneOf (now (words .entry)) page f 8) ⌝ }
+{
+    if words.len() - f < 8 {
+        return false;
+    }
+    let low = none_of_four(words, f, page);
+    let high = none_of_four(words, f + 4, page);
+    low & high
+}
+
+// The lowest frame from `u` up whose word names the page: others are passed eight at a time, then one by one.
 fn lowest_frame(words: &[u64], u: usize, page: u64) -> Found
     requires { ⌜ page < 2 ^ 32 ⌝ }
     ensures { λ r. ⌜ r ≡ lowestFrame (now (words .entry)) u page ⌝ }
 {
+    if words.len() < u {
+        return Found::Nothing;
+    }
     let mut f = u;
+    while clear_of(words, f, page) {
+        f += 8;
+    }
     while f < words.len() {
-        if clear_of(words, f, page) {
-            f += 4;
-        } else {
-            let w = words[f];
-            if w == page * 4 + 1 {
-                return Found::At(f);
-            }
-            if w == page * 4 + 3 {
-                return Found::At(f);
-            }
-            f += 1;
+        let w = words[f];
+        if w == page * 4 + 1 {
+            return Found::At(f);
         }
+        if w == page * 4 + 3 {
+            return Found::At(f);
+        }
+        f += 1;
     }
     Found::Nothing
 }

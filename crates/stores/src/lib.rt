@@ -3,7 +3,7 @@ ghost use mathlib.Core.Path.{_≡_};
 ghost use Prim.Native.Nat.{_+_, _*_, _≤_, _<_};
 ghost use lib.ListN.{length};
 ghost use Rattle.address.specs.Layout.{lineBytes, pageLines};
-ghost use Rattle.line_bytes.specs.Premises.{Width};
+ghost use Rattle.line_bytes.specs.Premises.{Width, InWord};
 ghost use Rattle.stores.specs.Premises.{Sized};
 ghost use Rattle.stores.specs.Stores.{mustWriteBack, writtenBack, inserted, performed, performedAt};
 ghost use Rattle.stores.specs.Lent.{storeBefore, storeAfter};
@@ -66,7 +66,7 @@ pub fn insert(
 
 // A load or a store at an offset of the line of record `i`.
 pub fn perform(records: &mut [u64], cache: &mut [u8], i: usize, offset: usize, a: Access) -> u32
-    requires { ⌜ (2 * i + 2 ≤ length (now records)) × (lineBytes * i + offset + a .width ≤ length (now cache)) × Width (a .width) ⌝ }
+    requires { ⌜ (2 * i + 2 ≤ length (now records)) × (lineBytes * i + lineBytes ≤ length (now cache)) × (offset < lineBytes) × InWord offset (a .width) × Width (a .width) ⌝ }
     ensures { λ r. ⌜ performed r (now (records .exit)) (now (cache .exit)) ≡ performedAt i offset a (now (records .entry)) (now (cache .entry)) ⌝ }
 {
     let at = LINE_BYTES * i + offset;

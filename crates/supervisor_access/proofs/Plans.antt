@@ -1,5 +1,5 @@
 -- Where a supervisor access goes, return by return, and what a plan that goes on says.
-use Prim.Native.Nat.{ℕ, _+_, _%_, _^_, _<_, _≤_}
+use Prim.Native.Nat.{ℕ, _+_, _*_, _/_, _%_, _^_, _<_, _≤_}
 use mathlib.Core.Path.{_≡_, _∙_, sym, ap}
 use mathlib.Core.Bool.{Bool, true, false, not, _&&_, _||_}
 use mathlib.Core.List.{List, []}
@@ -15,7 +15,7 @@ use Rattle.address.specs.declared.Region.the-variants.{Uncached, Cached, PageTa
 use Rattle.board.specs.Shapes.{fitsShape}
 use Rattle.board.specs.declared.Shape.{Shape}
 use Rattle.board.specs.declared.Pending.{Pending}
-use Rattle.line_bytes.specs.Premises.{Width}
+use Rattle.line_bytes.specs.Premises.{Width, InWord}
 use Rattle.stores.specs.declared.Access.{Access}
 use Rattle.machine.specs.Refusals.{byTable, isGlobal, tooLarge, alignedTo, wordInUse, isCached, outside}
 use Rattle.machine.specs.Accesses.{frameUnder}
@@ -157,8 +157,8 @@ module _ (s : Shape) (words : List ℕ) (tag : Pending) (a : Access) (g : Global
       pub line-wide : Width (a .width)
       line-wide = line-passed .wide
 
-      pub line-inside : h .0 % 16 + a .width ≤ 16
-      line-inside = line-passed .inside
+      pub line-inside : InWord (h .0) (a .width)
+      line-inside = line-passed .in-word
 
     module _ (p : Physical) (e : k ≡ Memory p) where
       memory-passed : Aligned (a .width) (g .0)
@@ -167,10 +167,16 @@ module _ (s : Shape) (words : List ℕ) (tag : Pending) (a : Access) (g : Global
       pub memory-wide : Width (a .width)
       memory-wide = memory-passed .wide
 
+      pub memory-in-word : InWord (p .0) (a .width)
+      memory-in-word =
+          let z = region-passed s words g (regionOf g) (Memory p) (memory-unstopped p) (plan-passed (Memory p) (memory-unstopped p) (sym f ∙ e) .1) in
+          let x : g .0 % 2 ^ 32 ≡ p .0 = ap (λ (w : Physical). w .0) (target-memory s words g (regionOf g) p (z .0) (z .1) .0) in
+          omega (arith, memory-passed .in-word)
+
       pub memory-inside : (slots r c m : List ℕ) (t : Bool) → t ≡ fitsShape s (length slots) (length words) (length r) (length c) (length m) → t ≡ true
-          → p .0 + a .width ≤ length m
+          → p .0 / 4 * 4 + 4 ≤ length m
       memory-inside slots r c m t i h =
           let z = region-passed s words g (regionOf g) (Memory p) (memory-unstopped p) (plan-passed (Memory p) (memory-unstopped p) (sym f ∙ e) .1) in
           let y = target-memory s words g (regionOf g) p (z .0) (z .1) in
           let x : g .0 % 2 ^ 32 ≡ p .0 = ap (λ (w : Physical). w .0) (y .0) in
-          omega (arith, memory-passed .inside, y .1, fit-uncached s slots words r c m t i h, fit-memory s slots words r c m t i h)
+          omega (arith, y .1, fit-uncached s slots words r c m t i h, fit-memory s slots words r c m t i h)

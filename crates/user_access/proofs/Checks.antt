@@ -15,7 +15,7 @@ use Rattle.slots.specs.Slots.{slotSegment, slotEmpty, slotWrites}
 use Rattle.board.specs.declared.Shape.{Shape}
 use Rattle.board.specs.declared.Pending.{Pending}
 use Rattle.board.proofs.Bools.{and-right, or-false}
-use Rattle.line_bytes.specs.Premises.{Width}
+use Rattle.line_bytes.specs.Premises.{Width, InWord}
 use Rattle.stores.specs.declared.Access.{Access}
 use Rattle.machine.proofs.Alignments.{Aligned, aligned-inside}
 use Rattle.machine.specs.Refusals.{byTable, isProcess, tooLarge, alignedTo}
@@ -56,6 +56,10 @@ module _ (n : ℕ) (a : Access) (large : Bool) (v : large ≡ tooLarge a) where
 -- a process that is not refused, and no tag pending
 pub process-below : (processes process : ℕ) (set : Bool) → (leb processes process || set) ≡ false → process < processes
 process-below processes process set o = leb-false processes process (or-false (leb processes process) set o .0)
+
+-- the width of an aligned access is one that may be
+pub aligned-wide : (width at : ℕ) (t : Bool) → t ≡ alignedTo width at → t ≡ true → Width width
+aligned-wide width at t e h = aligned-inside width at (sym e ∙ h) .wide
 
 -- the slot of an address that is not the kernel's is inside the slots of its process
 pub slot-inside : (s : Shape) (slots : List ℕ) (tag : Pending) (process slot : ℕ) (e : Effective) (k : Bool) → k ≡ isKernels e → k ≡ false → slot ≡ slotOf e
@@ -123,5 +127,5 @@ module _ (s : Shape) (slots : List ℕ) (tag : Pending) (process : ℕ) (a : Acc
     pub passed-wide : Width (a .width)
     passed-wide = passed .wide
 
-    pub passed-inside : g .0 % 16 + a .width ≤ 16
-    passed-inside = omega (arith, passed .inside, passed-aligned g (sym f ∙ k) .1)
+    pub passed-inside : InWord (g .0) (a .width)
+    passed-inside = omega (arith, passed .in-word, passed-aligned g (sym f ∙ k) .1)

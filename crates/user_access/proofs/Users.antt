@@ -1,21 +1,24 @@
 -- A user access: the check carried to the access's table, return by return.
-use Prim.Native.Nat.{ℕ}
-use mathlib.Core.Path.{_≡_, _∙_, sym, ap}
+use Prim.Native.Nat.{ℕ, _*_, _≤_}
+use mathlib.Core.Path.{_≡_, _∙_, refl, sym, ap}
 use mathlib.Core.Bool.{Bool, true, false}
 use mathlib.Core.List.{List, _++_}
 use lib.ListN.{length}
 use Rattle.address.specs.declared.Effective.{Effective}
 use Rattle.address.specs.declared.Global.{Global}
 use Rattle.board.specs.Answers.{answer}
-use Rattle.board.specs.Shapes.{fitsShape}
+use Rattle.address.specs.Layout.{processSlots}
+use Rattle.board.specs.Shapes.{fitsShape, maxProcesses}
 use Rattle.board.specs.declared.Answer.{Answer}
 use Rattle.board.specs.declared.Shape.{Shape}
 use Rattle.board.specs.declared.Pending.{Pending}
+use Rattle.stores.specs.Premises.{Sized}
 use Rattle.stores.specs.Stores.{store}
 use Rattle.stores.specs.declared.Access.{Access}
 use Rattle.machine.specs.Boards.{Board, board, Outcome, outcome, refused}
 use Rattle.machine.specs.Refusals.{byTable, lineRows}
 use Rattle.machine.specs.Accesses.{reached, stopped, wayTo, accessed, onBoard, userRows, userGlobal, userTable, userAccess}
+use Rattle.machine.proofs.Fits.{fit-sized, fit-words, fit-slots, fit-processes}
 use Rattle.machine.proofs.Tables.{table-append, table-map}
 use Rattle.line_access.specs.LineAccess.{lineAccess}
 use Rattle.user_access.specs.Checks.{userCheck}
@@ -44,17 +47,34 @@ module _ (s : Shape) (b : Board) (process : ℕ) (a : Access) (e : Effective) wh
       ∙ ap (byTable (refused b) (userRows s (b .slots) (b .tag) process a e)) (checked-line (userGlobal (b .slots) process e))
       ∙ sym (table-append (refused b) (userRows s (b .slots) (b .tag) process a e) _ _)
 
-module _ (s : Shape) (slots words r c m : List ℕ) (tag : Pending) (process : ℕ) (a : Access) (e : Effective) (t : Bool)
-    (f : t ≡ fitsShape s (length slots) (length words) (length r) (length c) (length m)) where
-  pub user-unfit : (x : Answer) → t ≡ false → x ≡ answer 1 0 0
+-- a shape that doesn't fit, and one that does
+module _ (s : Shape) (slots words r c m : List ℕ) (t : Bool) (f : t ≡ fitsShape s (length slots) (length words) (length r) (length c) (length m)) where
+  pub user-unfit : (tag : Pending) (process : ℕ) (a : Access) (e : Effective) (x : Answer) → t ≡ false → x ≡ answer 1 0 0
       → outcome x (board slots words r c m tag) ≡ userAccess s (board slots words r c m tag) process a e
   unfolding userAccess userTable byTable
-  user-unfit x h k = rw (k, ← f, h)
+  user-unfit tag process a e x h k = rw (k, ← f, h)
 
-  module _ (h : t ≡ true) (k : Check) (q : k ≡ userCheck s slots tag process a e) where
+  pub user-fit : t ≡ true → fitsShape s (length slots) (length words) (length r) (length c) (length m) ≡ true
+  user-fit h = sym f ∙ h
+
+module _ (s : Shape) (slots words r c m : List ℕ) (f : fitsShape s (length slots) (length words) (length r) (length c) (length m) ≡ true) where
+  -- what the check and the access to the line ask
+  pub fitting-slots : length slots ≡ s .processes * processSlots
+  fitting-slots = fit-slots s slots words r c m true (sym f) refl
+
+  pub fitting-processes : s .processes ≤ maxProcesses
+  fitting-processes = fit-processes s slots words r c m true (sym f) refl
+
+  pub fitting-words : length words ≡ s .frames
+  fitting-words = fit-words s slots words r c m true (sym f) refl
+
+  pub fitting-sized : Sized s r c m
+  fitting-sized = fit-sized s slots words r c m true (sym f) refl
+
+  module _ (tag : Pending) (process : ℕ) (a : Access) (e : Effective) (k : Check) (q : k ≡ userCheck s slots tag process a e) where
     user-on : checked s (board slots words r c m tag) a k ≡ userAccess s (board slots words r c m tag) process a e
     unfolding userAccess userTable byTable
-    user-on = ap (checked s (board slots words r c m tag) a) q ∙ checked-rows s (board slots words r c m tag) process a e ∙ rw (← f, h)
+    user-on = ap (checked s (board slots words r c m tag) a) q ∙ checked-rows s (board slots words r c m tag) process a e ∙ rw f
 
     pub user-refused : (n : ℕ) (x : Answer) → k ≡ Refuse n → x ≡ answer n 0 0
         → outcome x (board slots words r c m tag) ≡ userAccess s (board slots words r c m tag) process a e

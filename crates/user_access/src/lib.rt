@@ -1,9 +1,10 @@
 // 01, "Calls": a user's load or store, by effective address.
 ghost use mathlib.Core.Path.{_≡_};
+ghost use mathlib.Core.Bool.{true};
 ghost use Prim.Native.Nat.{_*_, _≤_};
 ghost use lib.ListN.{length};
 ghost use Rattle.address.specs.Layout.{processSlots};
-ghost use Rattle.board.specs.Shapes.{maxProcesses};
+ghost use Rattle.board.specs.Shapes.{maxProcesses, fitsShape};
 ghost use Rattle.machine.specs.Contracts.{before, after, UserAccess};
 ghost use Rattle.user_access.specs.Checks.{refusedBy, slotCheck, userCheck};
 use address::Effective;
@@ -45,8 +46,8 @@ fn refuse(n: u32, a: Access) -> Check
     Check::Refuse(n)
 }
 
-// Numbers 2 to 7 of a user access, or the global address. The value is asked next to the width, so that the two make one choice
-// by width once compiled: a hit of four bytes costs no more than without it.
+// Numbers 2 to 7 of a user access, or the global address. Of an access that may be done, width, alignment and value are asked
+// without a branch between the widths.
 fn user_check(
     s: Shape,
     slots: &[u32],
@@ -65,7 +66,7 @@ fn user_check(
         return refuse(3, a);
     }
     if line_access::effective_aligned(a.width, e) {
-        if line_access::too_large(a) {
+        if line_access::overflows(a) {
             return Check::Refuse(2);
         }
         if e.is_kernels() {
@@ -74,6 +75,28 @@ fn user_check(
         return slot_check(slots[process * PROCESS_SLOTS + e.slot()], a, e);
     }
     refuse(4, a)
+}
+
+// A user's load or store on a board that fits.
+pub fn fitting_access(
+    s: Shape,
+    slots: &[u32],
+    words: &[u64],
+    records: &mut [u64],
+    cache: &mut [u8],
+    memory: &mut [u8],
+    tag: Pending,
+    process: usize,
+    a: Access,
+    e: Effective,
+) -> Answer
+    requires { ⌜ fitsShape s (length (now slots)) (length (now words)) (length (now records)) (length (now cache)) (length (now memory)) ≡ true ⌝ }
+    ensures { λ r. ⌜ UserAccess s (before slots words records cache memory tag) process a e r (after slots words records cache memory tag) ⌝ }
+{
+    match user_check(s, slots, tag, process, a, e) {
+        Check::Refuse(n) => numbered(n),
+        Check::Go(g) => line_access::line_access(s, words, records, cache, memory, g, true, a),
+    }
 }
 
 // A user's load or store.
@@ -99,10 +122,7 @@ pub fn user_access(
         cache.len(),
         memory.len(),
     ) {
-        match user_check(s, slots, tag, process, a, e) {
-            Check::Refuse(n) => numbered(n),
-            Check::Go(g) => line_access::line_access(s, words, records, cache, memory, g, true, a),
-        }
+        fitting_access(s, slots, words, records, cache, memory, tag, process, a, e)
     } else {
         numbered(1)
     }

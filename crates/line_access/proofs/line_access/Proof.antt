@@ -10,7 +10,7 @@ line-access-spec =
     tie.close (tie.spec
     (search needs) (search needs) (search needs) (search needs) (search needs) (search needs)
     (λ c. search (needs, held-reads))
-    (λ c κs. search (needs, held-record, held-bytes))
+    (λ c κs. (search (needs, held-record), search (needs, held-bytes), search needs, search needs, search needs))
     (search needs) (search needs) (search needs)
     (λ c. search (needs, memory-reads))
     (search needs) (search needs)

@@ -1,5 +1,5 @@
--- `too_large` tests the widths one by one.
-use Rattle.line_access.proofs.Lines.{large-one, large-two, large-else}
+-- `too_large` asks `overflows` of the widths that may be.
+use Rattle.line_access.proofs.Lines.{width-is, large-none}
 use borrow.Author.Needs.{needs}
 use Rattle.line_access.proofs.too_large.Statement.{statement}
 use Rattle.line_access.proofs.too_large.Tie as tie
@@ -7,6 +7,6 @@ use Rattle.line_access.proofs.too_large.Tie as tie
 pub too-large-spec : {M : Type 1} → statement M
 too-large-spec =
     tie.close (tie.spec
-    (λ c. search (needs, large-one))
-    (λ c. search (needs, large-two))
-    (λ c. search (needs, large-else)))
+    (λ c κs. search (needs, width-is))
+    (λ c. search needs)
+    (λ c. search (needs, large-none)))

@@ -1,5 +1,5 @@
--- `load_bytes` reads a number, width by width.
-use Rattle.line_bytes.proofs.Bytes.{number-one, number-two, number-four}
+-- `load_bytes` reads the aligned word and shifts away what stands before and after the number.
+use Rattle.line_bytes.proofs.Bytes.{number-in-word}
 use borrow.Author.Needs.{needs}
 use Rattle.line_bytes.proofs.load_bytes.Statement.{statement}
 use Rattle.line_bytes.proofs.load_bytes.Tie as tie
@@ -7,9 +7,6 @@ use Rattle.line_bytes.proofs.load_bytes.Tie as tie
 pub load-bytes-spec : {M : Type 1} → statement M
 load-bytes-spec =
     tie.close (tie.spec
-    (search needs) (search needs)
-    (λ c. search (needs, number-one))
-    (search needs)
-    (λ c. search (needs, number-two))
-    (search needs) (search needs) (search needs) (search needs) (search needs)
-    (λ c. search (needs, number-four)))
+    (search needs) (search needs) (search needs) (search needs) (search needs) (search needs)
+    (search needs) (search needs) (search needs) (search needs) (search needs) (search needs)
+    (λ c. search (needs, number-in-word)))

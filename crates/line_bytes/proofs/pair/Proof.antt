@@ -9,4 +9,4 @@ pub pair-spec : {M : Type 1} → statement M
 pair-spec =
     tie.close (tie.spec
     (search needs) (search needs) (search needs) (search needs) (search needs) (search needs) (search needs)
-    (λ c. (search (needs, number-pair), omega arith)))
+    (λ c. (search (needs, number-pair), omega arith, search needs)))

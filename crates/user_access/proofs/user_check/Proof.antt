@@ -1,7 +1,7 @@
 -- `user_check` is rows 2 to 5, then `slot_check`: one law a return.
 use Prim.Native.Nat.{_<_}
 use native.Mathlib.Omega.{arith}
-use Rattle.user_access.proofs.Checks.{process-below, slot-inside, check-process, check-tag, check-aligned, check-value, check-kernels, check-slot}
+use Rattle.user_access.proofs.Checks.{process-below, aligned-wide, slot-inside, check-process, check-tag, check-aligned, check-value, check-kernels, check-slot}
 use borrow.Author.Needs.{needs}
 use Rattle.user_access.proofs.user_check.Statement.{statement}
 use Rattle.user_access.proofs.user_check.Tie as tie
@@ -12,7 +12,8 @@ user-check-spec =
     (λ c. search (needs, check-process))
     (search needs)
     (λ c. search (needs, check-tag))
-    (search needs) (search needs)
+    (search needs)
+    (λ c κs. search (needs, aligned-wide))
     (λ c. search (needs, check-value))
     (search needs)
     (λ c. search (needs, check-kernels))
