@@ -1,10 +1,11 @@
 -- The answers of the calls fit the packing: a refusal has one of the numbers of its table, and every mark is below 5.
-use Prim.Native.Nat.{ℕ, _<_}
+use Prim.Native.Nat.{ℕ, zero, suc, _<_}
 use mathlib.Core.Path.{_≡_, refl, sym, subst}
-use mathlib.Core.Bool.{Bool, true, false, _&&_, cond}
+use mathlib.Core.Bool.{Bool, true, false, not, _&&_, cond}
 use mathlib.Core.List.{List, [], _∷_}
 use native.Mathlib.Omega.{arith}
 use lib.Dec.{ltb}
+use lib.ListN.{getD}
 use borrow.Author.Tests.{ltb-true}
 use Rattle.address.specs.Addresses.{regionOf, physicalOf}
 use Rattle.address.specs.declared.Effective.{Effective}
@@ -21,6 +22,7 @@ use Rattle.stores.specs.declared.Access.{Access}
 use Rattle.reach.specs.declared.Way.{Way}
 use Rattle.reach.specs.declared.Way.the-variants.{Held, InMemory, Missing}
 use Rattle.machine.specs.Boards.{Board, Outcome, outcome, refused}
+use Rattle.machine.specs.Lists.{Asked, Answered, accessOn, oneByOne, Listed, listed, taken, listRefused, listDone, userAccesses}
 use Rattle.machine.specs.Refusals.{Row, byTable}
 use Rattle.machine.specs.Accesses.{performedOn, accessedBy, accessed, memoryAccess, supervisorDone, userTable, supervisorTable, userAccess, supervisorAccess}
 use Rattle.machine.specs.Calls.{attach, detach, mapPage, unmap, protect, flushAll, tag, loadAndMap, dropTag}
@@ -84,10 +86,27 @@ small-supervisor : (s : Shape) (b : Board) (a : Access) (g : Global) → Small (
 unfolding supervisorAccess supervisorTable lowRows
 small-supervisor s b a g = small-table b (supervisorTable s b a g) _ refl (small-region s (b .words) a g (b .store) (regionOf g))
 
+-- a list's own answer
+small-list : (s : Shape) (b : Board) (accesses : List ℕ) (answers : List Answer) → Small (userAccesses s b accesses answers .answer)
+unfolding userAccesses byTable
+small-list s b accesses answers = go (not (taken s b accesses answers)) _
+  where
+    go : (t : Bool) (x : Answered) → Small (cond t (listRefused answers b 1) (listDone x) .answer)
+    go true x = record { number-below = omega arith; mark-below = omega arith }
+    go false x = record { number-below = omega arith; mark-below = omega arith }
+
+small-listed : (s : Shape) (b : Board) (ks : List Asked) (i : ℕ) (other : Answer) → Small other → Small (getD (oneByOne s b ks .answers) i other)
+unfolding oneByOne
+small-listed s b [] i other z = z
+small-listed s b (k ∷ ks) zero other z = small-user s b (k .process) (k .access) (k .address)
+small-listed s b (k ∷ ks) (suc i) other z = small-listed s (accessOn s b k .after) ks i other z
+
 pub answers-fit : AnswersFit
 unfolding attach detach mapPage unmap protect flushAll tag loadAndMap dropTag lowRows
 answers-fit = record {
   user-access = small-user;
+  user-accesses = small-list;
+  listed = small-listed;
   supervisor-access = small-supervisor;
   attach = λ s b process slot segment write. small-table b _ _ refl (small-zero refl refl);
   detach = λ s b process slot. small-table b _ _ refl (small-zero refl refl);
@@ -103,6 +122,10 @@ answers-fit = record {
 -- the answer of an outcome fits where the outcome is a call's
 small-is : (a : Answer) (b : Board) (o : Outcome) → Small (o .answer) → outcome a b ≡ o → Small a
 small-is a b o z e = subst (λ (x : Outcome). Small (x .answer)) (sym e) z
+
+pub list-small : (x : Answer) (left : Answered) (s : Shape) (b : Board) (accesses : List ℕ) (answers : List Answer)
+    → listed x left ≡ userAccesses s b accesses answers → Small x
+list-small x left s b accesses answers h = subst (λ (o : Listed). Small (o .answer)) (sym h) (answers-fit .user-accesses s b accesses answers)
 
 module _ (x : Answer) (b₁ : Board) (s : Shape) (b : Board) where
   pub user-small : (process : ℕ) (a : Access) (e : Effective) → outcome x b₁ ≡ userAccess s b process a e → Small x

@@ -6,10 +6,12 @@ use mathlib.Core.List.{List}
 use lib.Dec.{eqb}
 use native.Mathlib.Omega.{arith}
 use borrow.Author.Tests.{ne-eqb}
+use Rattle.board.specs.Lists.{isYes}
 use Rattle.board.specs.declared.Answer.{Answer}
 use Rattle.board.specs.declared.Pending.{Pending}
 use Rattle.machine.specs.Boards.{Board, board, Outcome, outcome}
-use Rattle.crossing.specs.Packing.{markUnit, roomUnit, numberUnit, byteEnd, packed, unpacked, Small, NothingLost, isYes, wordAfter, tagOf}
+use Rattle.machine.specs.Lists.{Answered, Listed, listed}
+use Rattle.crossing.specs.Packing.{markUnit, roomUnit, numberUnit, byteEnd, packed, unpacked, Small, NothingLost, wordAfter, tagOf}
 
 pub packs : (a : Answer) → Small a → a .value < markUnit → unpacked (a .number * numberUnit + a .mark * markUnit + a .value) ≡ a
 unfolding unpacked
@@ -43,6 +45,10 @@ nothing-lost = record { answers = packs-all; numbers = packs-back; mark-byte = m
 -- the outcome, with its answer read off the number
 pub crosses : (a : Answer) (b : Board) (o : Outcome) (r : ℕ) → outcome a b ≡ o → unpacked r ≡ a → outcome (unpacked r) b ≡ o
 crosses a b o r e f = rw f e
+
+-- the same of a list
+pub crosses-list : (a : Answer) (left : Answered) (o : Listed) (r : ℕ) → listed a left ≡ o → unpacked r ≡ a → listed (unpacked r) left ≡ o
+crosses-list a left o r e f = rw f e
 
 -- the same where the tag crosses as two numbers
 pub crosses-tagged : (a : Answer) (slots w r c m : List ℕ) (tag : Pending) (o : Outcome) (n set name : ℕ) → outcome a (board slots w r c m tag) ≡ o

@@ -1,13 +1,16 @@
 -- No second return, and the tag's words.
 use Prim.Native.Nat.{ℕ}
-use mathlib.Core.Path.{_≡_, _∙_, sym, ap}
+use mathlib.Core.Path.{_≡_, _∙_, refl, sym, ap, ap₂}
 use mathlib.Core.Bool.{Bool, true, false}
+use mathlib.Core.List.{List, [], _∷_, map}
 use borrow.Author.Tests.{eqb-true, not-false}
+use Rattle.board.specs.Lists.{isYes}
 use Rattle.board.specs.declared.Answer.{Answer}
 use Rattle.board.specs.declared.Pending.{Pending}
 use Rattle.machine.specs.Boards.{Board}
+use Rattle.machine.specs.Lists.{Answered, answered}
 use Rattle.machine.specs.Contracts.{Determines}
-use Rattle.crossing.specs.Packing.{packed, unpacked, isYes, wordAfter, tagOf}
+use Rattle.crossing.specs.Packing.{packed, unpacked, unpackedAll, wordAfter, tagOf}
 use Rattle.crossing.specs.Returns.{FlagKept, Returned, boardOf, Meets, Returns}
 use Rattle.crossing.proofs.Packs.{nothing-lost}
 
@@ -31,6 +34,20 @@ packed-again r q e = sym (nothing-lost .numbers r) ∙ ap packed e ∙ nothing-l
 answer-second : (Contract : Answer → Board → Type 0) → Determines Contract → (r q : ℕ) (c d : Board)
     → Contract (unpacked r) c → Contract (unpacked q) d → (r ≡ q) × (c ≡ d)
 answer-second Contract one r q c d p h = let e = one (unpacked r) (unpacked q) c d p h in (packed-again r q (e .0), e .1)
+
+-- lists of numbers that unpack to the same answers are one
+packed-all-again : (xs ys : List ℕ) → unpackedAll xs ≡ unpackedAll ys → xs ≡ ys
+packed-all-again xs ys e = sym (again xs) ∙ ap (map packed) e ∙ again ys
+  where
+    again : (zs : List ℕ) → map packed (unpackedAll zs) ≡ zs
+    again [] = refl
+    again (z ∷ zs) = ap₂ (λ (x : ℕ) (l : List ℕ). x ∷ l) (nothing-lost .numbers z) (again zs)
+
+list-second : (Contract : Answer → Answered → Type 0) → Determines Contract → (r q : ℕ) (xs ys : List ℕ) (c d : Board)
+    → Contract (unpacked r) (answered (unpackedAll xs) c) → Contract (unpacked q) (answered (unpackedAll ys) d) → (r ≡ q) × ((xs ≡ ys) × (c ≡ d))
+list-second Contract one r q xs ys c d p h =
+    let e = one (unpacked r) (unpacked q) (answered (unpackedAll xs) c) (answered (unpackedAll ys) d) p h in
+    (packed-again r q (e .0), (packed-all-again xs ys (ap (λ (x : Answered). x .answers) (e .1)), ap (λ (x : Answered). x .after) (e .1)))
 
 -- a return says its number and its flag's word anew
 return-again : (before : ℕ) (x : Returned) → FlagKept before (x .set) → x ≡ readOff before (unpacked (x .result)) (boardOf x)
@@ -61,4 +78,4 @@ kept before name after name′ e w =
     (w ∙ word-same before (isYes after) (sym f), ap (λ (t : Pending). t .name) e)
 
 pub returns : Returns
-returns = record { no-second-answer = answer-second; no-second-return = second; words-kept = kept }
+returns = record { no-second-answer = answer-second; no-second-list = list-second; no-second-return = second; words-kept = kept }

@@ -4,8 +4,9 @@
 -- A contract reads the answer off that number: it cites the call's own with `unpacked r` for the answer.
 use Prim.Native.Nat.{ℕ, _+_, _*_, _/_, _%_, _<_, _^_}
 use mathlib.Core.Path.{_≡_}
-use mathlib.Core.Bool.{Bool, not, cond}
-use lib.Dec.{eqb}
+use mathlib.Core.Bool.{Bool, cond}
+use mathlib.Core.List.{List, map}
+use Rattle.board.specs.Lists.{isYes}
 use Rattle.board.specs.declared.Answer.{Answer}
 use Rattle.board.specs.declared.Pending.{Pending}
 use Rattle.board.specs.declared.Shape.{Shape}
@@ -33,6 +34,10 @@ packed a = a .number * numberUnit + a .mark * markUnit + a .value
 unfoldable pub unpacked : ℕ → Answer
 unpacked r = record { number = r / numberUnit; value = r % markUnit; mark = r / markUnit % (numberUnit / markUnit) }
 
+-- the answers of a list, read off their numbers. (Nothing is lost, so equal answers are equal numbers)
+abbrev pub unpackedAll : List ℕ → List Answer
+unpackedAll = map unpacked
+
 -- an answer that fits: number and mark in a byte each
 pub record Small (a : Answer) : Type 0 where
   pub number-below : a .number < byteEnd
@@ -45,10 +50,6 @@ pub record NothingLost : Type 0 where
   pub numbers : (r : ℕ) → packed (unpacked r) ≡ r
   pub mark-byte : (r : ℕ) → Small (unpacked r) → r / markUnit % byteEnd ≡ unpacked r .mark
   pub room : (r : ℕ) → Small (unpacked r) → r / roomUnit % (numberUnit / roomUnit) ≡ 0
-
--- a flag as a number: any but 0 says yes
-abbrev pub isYes : ℕ → Bool
-isYes n = not (eqb n 0)
 
 -- the word of a flag after a call: the caller's own while it says the same, else 1 or 0
 unfoldable pub wordAfter : ℕ → Bool → ℕ

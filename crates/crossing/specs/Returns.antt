@@ -1,16 +1,18 @@
 -- The contracts of the calls for C and Rust are the calls' own (machine's Contracts), of the answer that is read off the returned number.
--- No second return meets one, and a call that leaves the tag leaves the caller's two words.
+-- No second return meets one (of a list: no second answers' buffer either), and a call that leaves the tag leaves the caller's two words.
 use Prim.Native.Nat.{ℕ}
 use mathlib.Core.Path.{_≡_}
 use mathlib.Core.List.{List}
 use denote.Ref.{RefT, now}
 use denote.Triple.Both.{Both}
+use Rattle.board.specs.Lists.{isYes}
 use Rattle.board.specs.declared.Answer.{Answer}
 use Rattle.board.specs.declared.Pending.{Pending}
 use Rattle.stores.specs.Lent.{Buffer}
 use Rattle.machine.specs.Boards.{Board, board}
+use Rattle.machine.specs.Lists.{Answered, answered}
 use Rattle.machine.specs.Contracts.{Determines}
-use Rattle.crossing.specs.Packing.{unpacked, isYes, wordAfter, tagOf}
+use Rattle.crossing.specs.Packing.{unpacked, unpackedAll, wordAfter, tagOf}
 
 -- a word that a call is lent, and the tag that the caller's two words are before the call
 abbrev pub Word : Type 0
@@ -58,6 +60,9 @@ pub record Returns : Type 1 where
   -- numbers and boards that meet it are one
   pub no-second-answer : (Contract : Answer → Board → Type 0) → Determines Contract → (r q : ℕ) (c d : Board)
       → Contract (unpacked r) c → Contract (unpacked q) d → (r ≡ q) × (c ≡ d)
+  -- a list: two returned numbers, answers' buffers and boards are one
+  pub no-second-list : (Contract : Answer → Answered → Type 0) → Determines Contract → (r q : ℕ) (xs ys : List ℕ) (c d : Board)
+      → Contract (unpacked r) (answered (unpackedAll xs) c) → Contract (unpacked q) (answered (unpackedAll ys) d) → (r ≡ q) × ((xs ≡ ys) × (c ≡ d))
   -- a call that may change the tag: two returns are one
   pub no-second-return : (Contract : Answer → Board → Type 0) → Determines Contract → (before : ℕ) (x y : Returned)
       → Meets Contract before x → Meets Contract before y → x ≡ y

@@ -6,3 +6,4 @@ pub mod Wrong
 pub mod Largest
 pub mod Values
 pub mod Marks
+pub mod Lists

@@ -32,7 +32,7 @@ use Rattle.example_runs.proofs.Chains.{Does, Ran, ended, _then_, ran-an
 use Rattle.example_runs.proofs.Examples.{slots3, words2, ours, untagged, memory2, memory2-fits, six, ran-opening, after-opening}
 
 -- process 0's line held, changed; its first four bytes are these
-abbrev holdingFour : List ℕ → ℕ → ℕ → ℕ → ℕ → Board
+abbrev pub holdingFour : List ℕ → ℕ → ℕ → ℕ → ℕ → Board
 holdingFour m a b c d =
     untagged (slots3 false) words2 (ours .name ∷ wordOf (changedLine ours) ∷ 0 ∷ 0 ∷ [])
     ((a ∷ b ∷ c ∷ d ∷ 0 ∷ 0 ∷ 0 ∷ 0 ∷ 0 ∷ 0 ∷ 0 ∷ 0 ∷ 0 ∷ 0 ∷ 0 ∷ 0 ∷ []) ++ lineWith 0) m
@@ -42,12 +42,12 @@ abbrev waiting : List ℕ → Board
 waiting m = board (slots3 false) words2 (ours .name ∷ wordOf (changedLine ours) ∷ 0 ∷ 0 ∷ []) (lineWith 50 ++ lineWith 0) m (tagged 0x20000000)
 
 -- what is too large is refused on any board that fits
-refuses : (b : Board) (x : Asker) (width value : ℕ) → fitsBoard shape b ≡ true → isWidth width ≡ true → 256 ^ width ≤ value
+pub refuses : (b : Board) (x : Asker) (width value : ℕ) → fitsBoard shape b ≡ true → isWidth width ≡ true → 256 ^ width ≤ value
     → Does shape b (asks x (storing width value)) (answer 2 0 0) b
 refuses b x width value f w h = record { does = values-fit .too-large shape b x width value f w h }
 
 module _ (m : List ℕ) (length-is : length m ≡ 16384) where
-  fits-here : (a b c d : ℕ) → fitsBoard shape (holdingFour m a b c d) ≡ true
+  pub fits-here : (a b c d : ℕ) → fitsBoard shape (holdingFour m a b c d) ≡ true
   unfolding ones onesIn fitsShape
   fits-here a b c d = rw length-is
 
@@ -60,7 +60,7 @@ module _ (m : List ℕ) (length-is : length m ≡ 16384) where
   does-width-3 = record { does = rw length-is }
 
   -- loads of a held line, and stores to it
-  does-load-byte : (d v : ℕ) → Does shape (holdingFour m 0 0 0 d) (user 0 (loading 1 v) (effective 3)) (answer 0 d 1) (holdingFour m 0 0 0 d)
+  pub does-load-byte : (d v : ℕ) → Does shape (holdingFour m 0 0 0 d) (user 0 (loading 1 v) (effective 3)) (answer 0 d 1) (holdingFour m 0 0 0 d)
   unfolding ones onesIn fitsShape number lineAt holdsLine holdsAt holderFrom holderOf performedAt wayBy wayOf unreached mayWrite byTable tooLarge alignedTo markOf performedOn accessedBy accessed userTable userAccess step
   does-load-byte d v = record { does = rw (length-is, zero-add) }
 
@@ -72,7 +72,7 @@ module _ (m : List ℕ) (length-is : length m ≡ 16384) where
   unfolding ones onesIn fitsShape number lineAt holdsLine holdsAt holderFrom holderOf performedAt wayBy wayOf unreached mayWrite byTable tooLarge alignedTo markOf performedOn accessedBy accessed userTable userAccess step
   does-load-four = record { does = rw length-is }
 
-  does-save-byte : Does shape (holdingFour m 0 0 0 50) (save 0 1 3 255) (answer 0 0 1) (holdingFour m 0 0 0 255)
+  pub does-save-byte : Does shape (holdingFour m 0 0 0 50) (save 0 1 3 255) (answer 0 0 1) (holdingFour m 0 0 0 255)
   unfolding ones onesIn splice fitsShape digits stored lineAt putLine holdsLine holdsAt holderFrom holderOf performedAt wayBy wayOf unreached mayWrite byTable tooLarge alignedTo markOf performedOn accessedBy accessed userTable userAccess step
   does-save-byte = record { does = rw length-is }
 

@@ -5,3 +5,4 @@ pub mod Wrong
 pub mod Largest
 pub mod Values
 pub mod Marks
+pub mod Lists

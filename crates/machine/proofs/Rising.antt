@@ -7,6 +7,7 @@ pub tables-rise : TablesRise
 unfolding userTable supervisorTable rising
 tables-rise = record {
   user-access = λ s b process a e. refl;
+  user-accesses = λ s b accesses answers. refl;
   supervisor-access = λ s b a g. refl;
   attach = λ s b process slot segment. refl;
   detach = λ s b process slot. refl;

@@ -15,6 +15,7 @@ use Rattle.stores.specs.Lent.{Buffer}
 use Rattle.stores.specs.declared.Access.{Access}
 use Rattle.machine.specs.Boards.{Board, board, outcome}
 use Rattle.machine.specs.Accesses.{userAccess, supervisorAccess}
+use Rattle.machine.specs.Lists.{Answered, listed, userAccesses}
 use Rattle.machine.specs.Calls as calls
 use Rattle.machine.specs.Looks.{lookNumber, look, lookStart}
 
@@ -33,6 +34,10 @@ after slots words records cache memory tag =
 
 abbrev pub UserAccess : Shape → Board → ℕ → Access → Effective → Answer → Board → Type 0
 UserAccess s b process a e r c = outcome r c ≡ userAccess s b process a e
+
+-- of a list: what it leaves are the answers and the board
+abbrev pub UserAccesses : Shape → Board → List ℕ → List Answer → Answer → Answered → Type 0
+UserAccesses s b accesses answers r x = listed r x ≡ userAccesses s b accesses answers
 
 abbrev pub SupervisorAccess : Shape → Board → Access → Global → Answer → Board → Type 0
 SupervisorAccess s b a g r c = outcome r c ≡ supervisorAccess s b a g
@@ -73,12 +78,13 @@ Look s b line cache memory part = (now part ≡ look s b line) × (ptr part ≡ 
 
 -- ---- no second outcome
 
--- two outcomes that meet the contract agree in number, value, mark and all that is left: every slot, word, record, byte and tag
+-- two outcomes that meet the contract agree in number, value, mark and all that is left: every slot, word, record, byte and tag; of a list, every answer
 abbrev pub Determines : {Left : Type 0} → (Answer → Left → Type 0) → Type 0
 Determines {Left} Meets = (r q : Answer) (c d : Left) → Meets r c → Meets q d → (r ≡ q) × (c ≡ d)
 
 pub record NoSecondOutcome : Type 0 where
   pub user-access : (s : Shape) (b : Board) (process : ℕ) (a : Access) (e : Effective) → Determines (UserAccess s b process a e)
+  pub user-accesses : (s : Shape) (b : Board) (accesses : List ℕ) (answers : List Answer) → Determines (UserAccesses s b accesses answers)
   pub supervisor-access : (s : Shape) (b : Board) (a : Access) (g : Global) → Determines (SupervisorAccess s b a g)
   pub attach : (s : Shape) (b : Board) (process slot segment : ℕ) (write : Bool) → Determines (Attach s b process slot segment write)
   pub detach : (s : Shape) (b : Board) (process slot : ℕ) → Determines (Detach s b process slot)

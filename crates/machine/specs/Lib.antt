@@ -1,6 +1,7 @@
 pub mod Boards
 pub mod Refusals
 pub mod Accesses
+pub mod Lists
 pub mod Calls
 pub mod Looks
 pub mod Rising

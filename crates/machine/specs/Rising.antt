@@ -8,10 +8,12 @@ use lib.Dec.{leb}
 use Rattle.address.specs.declared.Effective.{Effective}
 use Rattle.address.specs.declared.Global.{Global}
 use Rattle.board.specs.declared.Shape.{Shape}
+use Rattle.board.specs.declared.Answer.{Answer}
 use Rattle.stores.specs.declared.Access.{Access}
 use Rattle.machine.specs.Boards.{Board}
 use Rattle.machine.specs.Refusals.{Row, entryTable}
 use Rattle.machine.specs.Accesses.{userTable, supervisorTable}
+use Rattle.machine.specs.Lists.{listTable}
 use Rattle.machine.specs.Calls.{attachTable, detachTable, mapTable, pageTable, flushTable, tagTable, loadAndMapTable, dropTagTable}
 use Rattle.machine.specs.Looks.{lookTable}
 
@@ -26,6 +28,7 @@ Rises rows = rising 1 rows ≡ true
 
 pub record TablesRise : Type 0 where
   pub user-access : (s : Shape) (b : Board) (process : ℕ) (a : Access) (e : Effective) → Rises (userTable s b process a e)
+  pub user-accesses : (s : Shape) (b : Board) (accesses : List ℕ) (answers : List Answer) → Rises (listTable s b accesses answers)
   pub supervisor-access : (s : Shape) (b : Board) (a : Access) (g : Global) → Rises (supervisorTable s b a g)
   pub attach : (s : Shape) (b : Board) (process slot segment : ℕ) → Rises (attachTable s b process slot segment)
   pub detach : (s : Shape) (b : Board) (process slot : ℕ) → Rises (detachTable s b process slot)

@@ -1,9 +1,10 @@
-// The calls for C and Rust, all but user access: numbers and slices go in, and the answer comes back as one number. A flag is
-// a number, and any but 0 says yes. No call asks anything of the numbers or of the buffers' lengths.
+// The calls for C and Rust, all but user access and lists of it: numbers and slices go in, and the answer comes back as one
+// number. A flag is a number, and any but 0 says yes. No call asks anything of the numbers or of the buffers' lengths.
 ghost use Rattle.address.specs.Addresses.{global};
+ghost use Rattle.board.specs.Lists.{isYes};
 ghost use Rattle.board.specs.declared.Pending.{Pending};
 ghost use Rattle.machine.specs.Contracts.{before, after, SupervisorAccess, Attach, Detach, Map, Unmap, Protect, FlushAll, Tag, LoadAndMap, DropTag, LookNumber};
-ghost use Rattle.crossing.specs.Packing.{unpacked, isYes, tagOf, shape, access};
+ghost use Rattle.crossing.specs.Packing.{unpacked, tagOf, shape, access};
 ghost use Rattle.crossing.specs.Returns.{tagBefore, returned, Meets};
 ghost use Rattle.crossing.specs.Entries.{EntryReturned};
 ghost use Rattle.look_place.specs.Lends.{LookPlace};

@@ -17,6 +17,7 @@ use Rattle.address.specs.declared.Region.{Region}
 use Rattle.address.specs.declared.Region.the-variants.{Uncached, Cached, PageTable, Ordinary}
 use Rattle.address.specs.declared.Entry.the-variants.{At, Refused}
 use Rattle.board.specs.declared.Shape.{Shape}
+use Rattle.board.specs.declared.Answer.{Answer}
 use Rattle.board.proofs.Bools.{clash, and-left, and-right, or-right, cond-both}
 use Rattle.stores.specs.Stores.{Store}
 use Rattle.reach.specs.Reach.{unreached}
@@ -26,13 +27,14 @@ use Rattle.reach.specs.declared.Way.the-variants.{Held, InMemory, Missing}
 use Rattle.machine.specs.Boards.{Board, Outcome, refused}
 use Rattle.machine.specs.Refusals.{Row, byTable, entryTable, outside, wordInUse, isOrdinary, isCached}
 use Rattle.machine.specs.Accesses.{Reached, accessedBy, accessed, performedOn, wayTo, userGlobal, userTable, userAccess, frameUnder, supervisorTable, memoryAccess, supervisorDone, supervisorAccess}
+use Rattle.machine.specs.Lists.{Answered, Listed, listTable, listRefused, listDone, userAccesses}
 use Rattle.machine.specs.Calls as board
 use Rattle.machine.specs.Rising.{rising, Rises}
 use Rattle.machine.proofs.Tables.{Passed, passed-more, table-both}
 use Rattle.machine.proofs.Rising.{tables-rise}
 use Rattle.machine.proofs.Prefixes.{region-cached, prefix-reached}
 use Rattle.promises.specs.Runs.{Supervisor, access, attach, detach, map, unmap, protect, flushAll, tag, loadAndMap, dropTag, Call, user, supervisor, supervise, step}
-use Rattle.promises.specs.Demand1.{supervisorRows, rowsOf, appliesIn, Lowest, Demand1, LookRefusals, EntryRefusals}
+use Rattle.promises.specs.Demand1.{supervisorRows, rowsOf, appliesIn, Lowest, Demand1, ListRefusals, LookRefusals, EntryRefusals}
 
 -- ---- rising tables
 
@@ -208,6 +210,27 @@ module _ (s : Shape) (b : Board) where
         nothing-given = table-both (λ n l. (n ≡ 0 → ⊥) → l ≡ []) (λ n. n) (λ n. []) (λ n h. refl) (lookTable s b line) 0 _ (λ p h. absurd (h refl));
       }
 
+-- a list, by its own table
+record ToldList (b : Board) (answers : List Answer) (rows : List Row) (o : Listed) : Type 0 where
+  number-is-lowest : Lowest rows (o .answer .number)
+  nothing-changed : (o .answer .number ≡ 0 → ⊥) → o ≡ listRefused answers b (o .answer .number)
+
+list-told : (b : Board) (answers : List Answer) (rows : List Row) (d : Answered) (o : Listed) → Tabled (listRefused answers b) 1 rows (listDone d) o
+    → ToldList b answers rows o
+list-told b answers rows d o (passed p q) =
+    record {
+      number-is-lowest = record { none-applies = λ n k. p k; applies = λ n. absurd (n refl); lowest = λ k e. omega arith };
+      nothing-changed = λ n. absurd (n refl);
+    }
+list-told b answers rows d o (stopped n l a low) =
+    record { number-is-lowest = record { none-applies = λ e. absurd (omega arith); applies = λ e. a; lowest = low }; nothing-changed = λ e. refl }
+
+told-list : (s : Shape) (b : Board) (accesses : List ℕ) (answers : List Answer) → ListRefusals s b accesses answers
+unfolding userAccesses
+told-list s b accesses answers =
+    let t = list-told b answers (listTable s b accesses answers) _ _ (tabled (listRefused answers b) _ 1 (listTable s b accesses answers) (tables-rise .user-accesses s b accesses answers)) in
+    record { number-is-lowest = t .number-is-lowest; nothing-changed = t .nothing-changed }
+
 -- the number of an entry is its table's, and a refused one has value 0
 entry-by : (t : Bool) (g : Global) → cond (not t) 2 0 ≡ entryNumber (cond t (At g) Refused)
 unfolding entryNumber
@@ -232,6 +255,7 @@ told-entry page =
 pub demand1 : Demand1
 demand1 = record {
   calls = λ s b k. let t = told-call s b k in record { number-is-lowest = t .number-is-lowest; nothing-changed = t .nothing-changed };
+  lists = told-list;
   looks = told-look;
   entries = told-entry;
 }

@@ -20,6 +20,7 @@ pub mod Demand2
 pub mod Demand3
 pub mod Brought
 -- what a change request promises beside them
+pub mod Lists
 pub mod Entries
 pub mod Limits
 pub mod Kept

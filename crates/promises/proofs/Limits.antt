@@ -1,5 +1,5 @@
 -- The limits as every call gives them. Stands on Demand1 (a number that is given is a row's that applies) and Demand2 (numbers that don't fit are
--- refused by 1).
+-- refused by 1), and Lists.
 use Prim.Native.Nat.{ℕ, _*_}
 use mathlib.Core.Path.{_≡_, _∙_, refl, sym, ap}
 use mathlib.Core.Bool.{Bool, true, false, not}
@@ -12,6 +12,7 @@ use borrow.Author.Tests.{le-leb, eq-eqb}
 use Rattle.address.specs.Layout.{processSlots}
 use Rattle.board.specs.Shapes.{limitsHold, fitsShape, maxFrames, maxProcesses, maxLines, recordWords}
 use Rattle.board.specs.declared.Shape.{Shape}
+use Rattle.board.specs.declared.Answer.{Answer}
 use Rattle.board.proofs.Bools.{clash, and-left, and-right}
 use Rattle.board.proofs.Shapes.{limited}
 use Rattle.lines.proofs.OneBit.{one-bit, power-one}
@@ -26,6 +27,7 @@ use Rattle.promises.specs.Demand1.{supervisorRows, rowsOf, appliesIn, Lo
 use Rattle.promises.specs.Limits.{Within, AsLong, NotBy1, By1, LimitsStand}
 use Rattle.promises.proofs.Demand1.{rising-from, demand1}
 use Rattle.promises.proofs.Demand2.{unfit-call}
+use Rattle.promises.proofs.Lists.{lists-are-calls}
 
 -- ---- taken
 
@@ -82,6 +84,7 @@ module _ (s : Shape) (b : Board) (fits : fitsBoard s b ≡ true) where
   taken-fits : NotBy1 s b
   taken-fits = record {
     calls = λ c. never-one (rowsOf s b c) _ (demand1 .calls s b c .number-is-lowest) (call-passed c);
+    lists = λ accesses answers l e. let z : _≡_ {A = ℕ} 0 1 = sym (ap (λ (x : Answer). x .number) (lists-are-calls .is-calls s b accesses answers fits l .done)) ∙ e in omega arith;
     looks = λ line. never-one (lookTable s b line) _ (demand1 .looks s b line .number-is-lowest) (passed _ (tables-rise .look s b line));
   }
 
@@ -113,6 +116,7 @@ module _ (s : Shape) (b : Board) (fits : fitsBoard s b ≡ true) where
 refused-unfit : (s : Shape) (b : Board) → fitsBoard s b ≡ false → By1 s b
 unfolding lookNumber byTable
 refused-unfit s b e = record {
+  lists = λ accesses answers. lists-are-calls .refused-else s b accesses answers (λ f l. clash (fitsBoard s b) f e);
   calls = λ c. unfit-call s b (b .store .memory) (record { no = e; same-length = refl }) c .0;
   looks = λ line. rw e;
 }

@@ -8,9 +8,11 @@ use mathlib.Core.List.{List, [], _∷_}
 use lib.Dec.{eqb}
 use Rattle.address.specs.Entries.{askedEntry, entryNumber, entryValue}
 use Rattle.board.specs.declared.Shape.{Shape}
+use Rattle.board.specs.declared.Answer.{Answer}
 use Rattle.machine.specs.Boards.{Board, refused}
 use Rattle.machine.specs.Refusals.{Row, entryTable}
 use Rattle.machine.specs.Accesses.{userTable, supervisorTable}
+use Rattle.machine.specs.Lists.{listTable, listRefused, userAccesses}
 use Rattle.machine.specs.Calls.{attachTable, detachTable, mapTable, pageTable, flushTable, tagTable, loadAndMapTable, dropTagTable}
 use Rattle.machine.specs.Looks.{lookTable, lookNumber, look}
 use Rattle.promises.specs.Runs.{Supervisor, access, attach, detach, map, unmap, protect, flushAll, tag, loadAndMap, dropTag, Call, user, supervisor, step}
@@ -49,6 +51,12 @@ pub record Refusals (s : Shape) (b : Board) (k : Call) : Type 0 where
   -- refused: value 0, mark 0 and nothing changed
   pub nothing-changed : (step s b k .answer .number ≡ 0 → ⊥) → step s b k ≡ refused b (step s b k .answer .number)
 
+-- the same of a list of accesses: refused, it leaves every answer as it was too. (Its accesses are calls: what refuses one of them is said of that call)
+pub record ListRefusals (s : Shape) (b : Board) (accesses : List ℕ) (answers : List Answer) : Type 0 where
+  pub number-is-lowest : Lowest (listTable s b accesses answers) (userAccesses s b accesses answers .answer .number)
+  pub nothing-changed : (userAccesses s b accesses answers .answer .number ≡ 0 → ⊥)
+      → userAccesses s b accesses answers ≡ listRefused answers b (userAccesses s b accesses answers .answer .number)
+
 -- the same of look, which changes nothing: its number is the lowest that applies, and refused it gives an empty part
 pub record LookRefusals (s : Shape) (b : Board) (line : ℕ) : Type 0 where
   pub number-is-lowest : Lowest (lookTable s b line) (lookNumber s b line)
@@ -61,5 +69,6 @@ pub record EntryRefusals (page : ℕ) : Type 0 where
 
 pub record Demand1 : Type 0 where
   pub calls : (s : Shape) (b : Board) (k : Call) → Refusals s b k
+  pub lists : (s : Shape) (b : Board) (accesses : List ℕ) (answers : List Answer) → ListRefusals s b accesses answers
   pub looks : (s : Shape) (b : Board) (line : ℕ) → LookRefusals s b line
   pub entries : (page : ℕ) → EntryRefusals page

@@ -5,6 +5,7 @@ pub mod Demand1
 pub mod Demand2
 pub mod Demand3
 pub mod Brought
+pub mod Lists
 pub mod Entries
 pub mod Limits
 pub mod Values

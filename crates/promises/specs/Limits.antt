@@ -9,7 +9,9 @@ use lib.ListN.{length}
 use Rattle.address.specs.Layout.{lineBytes, pageBytes}
 use Rattle.board.specs.Shapes.{maxFrames, maxProcesses, maxLines, lengthsAgree}
 use Rattle.board.specs.declared.Shape.{Shape}
+use Rattle.board.specs.declared.Answer.{Answer}
 use Rattle.machine.specs.Boards.{Board, fresh, refused}
+use Rattle.machine.specs.Lists.{accessWords, listRefused, userAccesses}
 use Rattle.machine.specs.Looks.{lookNumber}
 use Rattle.promises.specs.Runs.{Call, step}
 
@@ -28,14 +30,17 @@ abbrev pub AsLong : Shape → Board → Type 0
 AsLong s b =
     lengthsAgree s (length (b .slots)) (length (b .words)) (length (b .store .records)) (length (b .store .cache)) (length (b .store .memory)) ≡ true
 
--- no call is refused by 1, and no look
+-- no call is refused by 1, no list with five words for each answer, and no look
 pub record NotBy1 (s : Shape) (b : Board) : Type 0 where
   pub calls : (c : Call) → step s b c .answer .number ≢ 1
+  pub lists : (accesses : List ℕ) (answers : List Answer) → length accesses ≡ accessWords * length answers
+      → userAccesses s b accesses answers .answer .number ≢ 1
   pub looks : (line : ℕ) → lookNumber s b line ≢ 1
 
--- every call is refused by 1 and changes nothing, and every look is refused by 1
+-- every call and every list is refused by 1 and changes nothing, and every look is refused by 1
 pub record By1 (s : Shape) (b : Board) : Type 0 where
   pub calls : (c : Call) → step s b c ≡ refused b 1
+  pub lists : (accesses : List ℕ) (answers : List Answer) → userAccesses s b accesses answers ≡ listRefused answers b 1
   pub looks : (line : ℕ) → lookNumber s b line ≡ 1
 
 pub record LimitsStand : Type 0 where
