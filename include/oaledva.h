@@ -17,17 +17,19 @@
  *   - each pointer points to as many elements as the length after it says, readable, and writable where the prototype has
  *     no const. Lengths count elements, not bytes. Where the length is 0 the pointer may be NULL. `set` and `name` of the
  *     calls on the tag have no length: each points to one element and is never NULL;
- *   - alignment: each pointer is aligned for its elements (4 for uint32_t, 8 for uint64_t), as every C array of them is;
+ *   - alignment: each pointer is aligned for its elements (4 for uint32_t, 8 for uint64_t and oaledva_answer), as every C
+ *     array of them is;
  *   - aliasing: what a call may write (a pointer without const) overlaps nothing else that is passed to it, and no other
- *     thread writes what a call reads, or touches what it writes, until it returns. Pointers with const may overlap. Calls
- *     on different boards may run at the same time;
+ *     thread writes what a call reads, or touches what it writes, until it returns. Pointers with const may overlap. So the
+ *     answers of a list stand apart from its accesses and from the board. Calls on different boards may run at the same time;
  *   - the types of their own below (oaledva_answer and the like) are passed and returned as the numbers in them: one number
  *     as that number is, the two of oaledva_pending one after the other on the stack, because the six arguments that go in
- *     registers come before it. So it is on x86-64 Linux, in C and in C++;
+ *     registers come before it. An array of oaledva_answer is one of uint64_t, and one of oaledva_access of uint32_t. So it is
+ *     on x86-64 Linux, in C and in C++;
  *   - the stack has room (see above), and the compiler, the linker and the processor do as they should.
  *
  * What is promised of a run of calls from a fresh board (docs/PROMISES.md: the answers of a machine without a cache, and one
- * process apart from the others) asks two things more:
+ * process apart from the others; a list counts as its accesses, one after another) asks two things more:
  *   - between two calls nobody else changes the buffers or the tag's two words. Reading them is fine;
  *   - U belongs to the board. The buffers' lengths pin F, P and L: a call that brings others is answered by number 1. They
  *     do not pin U, and a call that brings another U than the board's, up to F, is not refused. Example: with U = 0 a page is
@@ -128,7 +130,8 @@ enum {
 /* ---- marks: how an access went. An access that is done has one of 1 to 4; a refused one has 0, and so has every call that
  * is no access, even where it reads lines from memory or writes them back. A mark is no yes or no: compare it with a name. */
 enum {
-    OALEDVA_NO_ACCESS = 0,  /* the call was refused, or it is no access (map, attach, load-and-map and the like) */
+    OALEDVA_NO_ACCESS = 0,  /* the call was refused, or it is no access (map, attach, load-and-map and the like; a list, whose
+                               accesses have their own) */
     OALEDVA_HIT = 1,        /* the line was held when the access came: the cache had it, and memory was not touched */
     OALEDVA_REFILLED = 2,   /* the line was not held, and was read from memory; nothing was written back */
     OALEDVA_WROTE_BACK = 3, /* the line was not held, and was read from memory; in that call a changed line was written back
@@ -235,6 +238,20 @@ typedef struct oaledva_pending {
 } oaledva_pending;
 OALEDVA_ASSERT(oaledva_pending_layout, sizeof(oaledva_pending) == 16, "oaledva_pending must not be packed");
 
+/* A user's access, as a list has it: what oaledva_user_access takes one by one, in five words. oaledva_load_access and
+ * oaledva_store_access make one. */
+typedef struct oaledva_access {
+    uint32_t process;
+    oaledva_kind kind;
+    uint32_t width;
+    uint32_t address;
+    uint32_t value;
+} oaledva_access;
+
+#define OALEDVA_ACCESS_WORDS 5
+OALEDVA_ASSERT(oaledva_access_layout, sizeof(oaledva_access) == OALEDVA_ACCESS_WORDS * sizeof(uint32_t),
+               "oaledva_access must be five words without gaps");
+
 /* ==== each number and each buffer by itself
  * Every call takes the shape and the five buffers first, in this order. */
 #define OALEDVA_SHAPE_ARGS size_t frames, size_t uncached, size_t processes, size_t lines
@@ -255,6 +272,26 @@ OALEDVA_MUST_USE oaledva_answer oaledva_user_access(
     uint8_t *memory, size_t memory_length,
     oaledva_pending tag,
     size_t process, oaledva_kind kind, uint32_t width, uint32_t address, uint32_t value);
+
+/* Many users' accesses in one call: to feed a run of samples, to replay a log. `accesses` has five words for each: process;
+ * kind (0 is a load, anything else a store); width; effective address; value. `answers` has room for one answer for each, and
+ * may hold anything before. So accesses_length is OALEDVA_ACCESS_WORDS times answers_length.
+ * They are done one after another, in the list's order, each as oaledva_user_access does it on the board that the one before
+ * left. The answer of each, with its number, value and mark, is written to its place in `answers`. A refused access changes
+ * nothing but that; those after it are done all the same. While a tag is pending every one is refused, by 3 or by 2.
+ * The call's own answer says whether the list was done, and not how its accesses went: number 0, also where each of them was
+ * refused, value 0 and mark 0. It is refused by 1 only: where a single access on this board is, or where the two lengths do
+ * not agree. Then nothing changes, in `answers` neither: what stands there is none of this call's. An empty list is done. */
+OALEDVA_MUST_USE oaledva_answer oaledva_user_accesses(
+    OALEDVA_SHAPE_ARGS,
+    const uint32_t *slots, size_t slots_length,
+    const uint64_t *words, size_t words_length,
+    uint64_t *records, size_t records_length,
+    uint8_t *cache, size_t cache_length,
+    uint8_t *memory, size_t memory_length,
+    oaledva_pending tag,
+    const uint32_t *accesses, size_t accesses_length,
+    oaledva_answer *answers, size_t answers_length);
 
 /* A supervisor's load or store by global address (below 2^44): ordinary; prefix 0, the physical address itself, uncached, in
  * frames below U; or prefix 1, 2^32 + the physical address, cached, in frames from U up whose word is 0. The page's write bit
@@ -504,6 +541,34 @@ OALEDVA_MUST_USE static inline oaledva_answer oaledva_board_load(
 OALEDVA_MUST_USE static inline oaledva_answer oaledva_board_store(
     oaledva_board *b, size_t process, uint32_t width, uint64_t address, uint32_t value) {
     return oaledva_user_access(OALEDVA_LEND(*b), b->tag, process, OALEDVA_STORE, width, oaledva_effective(address), value);
+}
+
+/* Many of them in one call: oaledva_user_accesses, over a list of accesses that these two make. Nothing is done until the list
+ * is. An address is taken as in a single call. A process that does not fit 32 bits becomes UINT32_MAX, which is no process
+ * either. */
+static inline uint32_t oaledva_process_word(size_t process) {
+    return process <= UINT32_MAX ? (uint32_t)process : UINT32_MAX;
+}
+
+OALEDVA_MUST_USE static inline oaledva_access oaledva_load_access(size_t process, uint32_t width, uint64_t address) {
+    const oaledva_access access = {oaledva_process_word(process), {0}, width, oaledva_effective(address), 0};
+    return access;
+}
+
+OALEDVA_MUST_USE static inline oaledva_access oaledva_store_access(
+    size_t process, uint32_t width, uint64_t address, uint32_t value) {
+    const oaledva_access access = {oaledva_process_word(process), {1}, width, oaledva_effective(address), value};
+    return access;
+}
+
+/* Here the lengths count accesses and answers: they are equal, or the list is refused by 1. */
+OALEDVA_MUST_USE static inline oaledva_answer oaledva_board_accesses(
+    oaledva_board *b, const oaledva_access *accesses, size_t accesses_length, oaledva_answer *answers,
+    size_t answers_length) {
+    /* No list is so long that its words can't be counted. Such a length is refused: one word is not five for each answer. */
+    const size_t words = accesses_length <= SIZE_MAX / OALEDVA_ACCESS_WORDS ? OALEDVA_ACCESS_WORDS * accesses_length : 1;
+    /* An access is five of uint32_t without gaps, so an array of them is read as the words it consists of. */
+    return oaledva_user_accesses(OALEDVA_LEND(*b), b->tag, (const uint32_t *)accesses, words, answers, answers_length);
 }
 
 /* A supervisor's, by global address. */

@@ -1,15 +1,16 @@
 //! The functions of `liboaledva.a` as they are, by the prototypes of `include/oaledva.h`. Every call but
 //! [`oaledva_entry_of_page`] takes a board: the shape (four numbers) and the five buffers first, each as a pointer and its
-//! length in elements; a call says of each buffer whether it only reads it or may write it. Answers, places, entries, flags
-//! and the tag are numbers in types of their own, as in the header: a type of one number is passed as that number, and
-//! [`Pending`] as its two, one after the other, because the six arguments that go in registers come before it (x86-64 System
-//! V).
+//! length in elements; a call says of each buffer whether it only reads it or may write it. Answers, places, entries and flags
+//! are numbers in types of their own, as in the header, and are passed as these numbers. A list's answers are written as an
+//! array of such numbers, and its accesses read as one of words ([`Access`]).
+//!
+//! The tag of an access is two numbers: `set`, which is not 0 where a tag is pending, and `name`, its line name.
 //!
 //! # Safety
 //! What the proof assumes of the caller: each pointer points to as many elements as its length says (where the length is 0 it
-//! may be null), aligned for them; `set` and `name` have no length, and each points to one element; what a call may write
-//! overlaps nothing else that is passed, and nobody else touches the buffers during the call. Nothing is asked of the
-//! numbers, the lengths or the contents: a wrong one gets its number.
+//! may be null), aligned for them; where `set` and `name` are pointers they have no length, and each points to one element;
+//! what a call may write overlaps nothing else that is passed, and nobody else touches the buffers during the call. Nothing is
+//! asked of the numbers, the lengths or the contents: a wrong one gets its number.
 
 /// What a call gives, as one number: number × 2^56 + mark × 2^32 + value. The value has bits 0 to 31, the mark 32 to 39, the
 /// number 56 to 63; the sixteen between are 0.
@@ -24,6 +25,9 @@ impl Answer {
     const NUMBER_AT: u32 = 56;
     const MARK_AT: u32 = 32;
     const MARK_MASK: u32 = 0xff;
+
+    /// What stands in a list's answers before the call: no call gives it, for its number and its mark are 255.
+    pub const NONE: Answer = Answer { packed: u64::MAX };
 
     /// 0 for done, else why the call was refused.
     pub fn number(self) -> u32 {
@@ -135,14 +139,52 @@ impl Permission {
     pub const WRITABLE: Permission = Permission { write: 1 };
 }
 
-/// The tag, as an access takes it.
+/// A user's access, as a list has it: what [`oaledva_user_access`] takes one by one, in [`ACCESS_WORDS`] words.
 #[derive(Clone, Copy, Debug, PartialEq, Eq)]
 #[repr(C)]
-pub struct Pending {
-    /// Not 0 where a tag is pending.
-    pub set: u32,
-    /// Its line name.
-    pub name: u64,
+pub struct Access {
+    /// The process.
+    pub process: u32,
+    /// A load or a store.
+    pub kind: Kind,
+    /// How many bytes: 1, 2 or 4.
+    pub width: u32,
+    /// The effective address.
+    pub address: u32,
+    /// The value to store; a load ignores it.
+    pub value: u32,
+}
+
+/// How many words of 32 bits an [`Access`] is.
+pub const ACCESS_WORDS: usize = 5;
+
+// So that a slice of accesses may be lent as one of words.
+const _: () = assert!(
+    std::mem::size_of::<Access>() == ACCESS_WORDS * std::mem::size_of::<u32>()
+        && std::mem::align_of::<Access>() == std::mem::align_of::<u32>()
+);
+
+impl Access {
+    /// A load. Like [`Access::store`] it does nothing by itself: a list of them does. A process that does not fit 32 bits
+    /// becomes `u32::MAX`, which is no process either.
+    #[must_use]
+    pub const fn load(process: usize, width: u32, address: u32) -> Access {
+        Access { process: process_word(process), kind: Kind::LOAD, width, address, value: 0 }
+    }
+
+    /// A store. The value has to fit the width, as in a single one.
+    #[must_use]
+    pub const fn store(process: usize, width: u32, address: u32, value: u32) -> Access {
+        Access { process: process_word(process), kind: Kind::STORE, width, address, value }
+    }
+}
+
+const fn process_word(process: usize) -> u32 {
+    if process <= u32::MAX as usize {
+        process as u32
+    } else {
+        u32::MAX
+    }
 }
 
 macro_rules! pointer {
@@ -179,13 +221,21 @@ macro_rules! calls {
     };
 }
 
+// Where the header takes an `oaledva_pending` by value, the two numbers stand here by themselves. It is the same call: six
+// arguments in registers come before them, so struct or numbers, they are two words on the stack (x86-64 System V). But rustc
+// makes such a struct in memory by two stores and copies it by one load, which must wait until both stores have reached the
+// cache: as bench/accesses measures it, a fifth of the time of a load that hits.
 calls! {
     /// A user's load or store. A load ignores the value; a store's has to fit the width.
     fn oaledva_user_access(read slots, read words, write records, write cache, write memory,
-        tag: Pending, process: usize, kind: Kind, width: u32, address: u32, value: u32) -> Answer;
+        set: u32, name: u64, process: usize, kind: Kind, width: u32, address: u32, value: u32) -> Answer;
+    /// Many users' accesses, one after another: [`ACCESS_WORDS`] words for each, as an [`Access`] has them, and one answer.
+    fn oaledva_user_accesses(read slots, read words, write records, write cache, write memory,
+        set: u32, name: u64, accesses: *const u32, accesses_length: usize,
+        answers: *mut Answer, answers_length: usize) -> Answer;
     /// A supervisor's load or store by global address; the value as a user's.
     fn oaledva_supervisor_access(read slots, read words, write records, write cache, write memory,
-        tag: Pending, kind: Kind, width: u32, address: u64, value: u32) -> Answer;
+        set: u32, name: u64, kind: Kind, width: u32, address: u64, value: u32) -> Answer;
     /// Attaches a segment to a slot of a process.
     fn oaledva_attach(write slots, read words, read records, read cache, read memory,
         process: usize, slot: usize, segment: u64, permission: Permission) -> Answer;

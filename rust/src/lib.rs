@@ -8,7 +8,8 @@ mod mark;
 mod numbered;
 mod refusal;
 
-use ffi::{Answer, Kind, Pending, Permission, Stands};
+pub use ffi::{Access, Answer};
+use ffi::{Kind, Permission, Stands};
 pub use mark::Mark;
 pub use refusal::Refusal;
 use std::ops::DerefMut;
@@ -153,7 +154,9 @@ macro_rules! call {
         // Safety: the buffers are those of `Board::new` or `Lent::over` (the fields are private): vectors or slices, so they
         // are valid and aligned, and a length doesn't change from one line to the next. Those that a call may write are
         // borrowed mutably through the board, so they are apart from all else. The tag's two words, where a call may write
-        // them, are locals of the method.
+        // them, are locals of the method. The accesses and answers of a list are slices of its caller: the answers are borrowed
+        // mutably beside the board, so they too are apart from all else, and each access is so many words without gaps, whose
+        // number fits because the slice's bytes do.
         unsafe {
             ffi::$name(
                 $board.shape.frames,
@@ -205,6 +208,48 @@ where
         self.user_access(process, Kind::STORE, width, address, value).map(drop)
     }
 
+    /// Many users' accesses in one call, to feed a run of samples or to replay a log. They are done in their order, each as
+    /// [`Board::load`] or [`Board::store`] does it on the board that the one before left, and each gets its [`Answer`] at its
+    /// place in `answers`, whatever stood there. A refused access changes nothing, and those after it are done all the same:
+    /// `Ok` says that the list was done, and each answer how its access went.
+    ///
+    /// ```
+    /// # use oaledva::{Board, Refusal, Shape};
+    /// use oaledva::{Access, Answer, Mark};
+    /// # let mut board = Board::new(Shape { frames: 4, uncached: 1, processes: 2, lines: 2 })?;
+    /// # board.map(0x200000, 1, true)?;
+    /// # board.attach(0, 0, 2048, true)?;
+    /// let list = [Access::store(0, 4, 0, 50), Access::load(1, 1, 3), Access::load(0, 1, 3)];
+    /// let mut answers = [Answer::NONE; 3];
+    /// board.accesses(&list, &mut answers)?;
+    /// assert_eq!(answers.map(Answer::outcome), [Ok(0), Err(Refusal::SlotEmpty), Ok(50)]);
+    /// assert_eq!(answers.map(Answer::marked), [Mark::Refilled, Mark::NoAccess, Mark::Hit]);
+    /// # Ok::<(), Refusal>(())
+    /// ```
+    ///
+    /// The list as a whole is refused by [`Refusal::Shape`] alone: where it has not as many accesses as answers, or where a
+    /// single access on this board would be. Then nothing is done, and no answer is written. It is no access itself, so
+    /// [`Board::mark`] is [`Mark::NoAccess`] after it.
+    ///
+    /// ```
+    /// # use oaledva::{Access, Answer, Board, Refusal, Shape};
+    /// # let mut board = Board::new(Shape { frames: 4, uncached: 1, processes: 2, lines: 2 })?;
+    /// let mut answers = [Answer::NONE; 2];
+    /// assert_eq!(board.accesses(&[Access::load(0, 1, 3)], &mut answers), Err(Refusal::Shape));
+    /// assert_eq!(answers, [Answer::NONE; 2]);
+    /// # Ok::<(), Refusal>(())
+    /// ```
+    pub fn accesses(&mut self, accesses: &[Access], answers: &mut [Answer]) -> Result<(), Refusal> {
+        let (set, name) = self.tag_words();
+        let (words, room) = (ffi::ACCESS_WORDS * accesses.len(), answers.len());
+        let answer = call!(
+            self,
+            as_mut_ptr,
+            oaledva_user_accesses(set, name, accesses.as_ptr().cast(), words, answers.as_mut_ptr(), room)
+        );
+        self.answer(answer).map(drop)
+    }
+
     /// A supervisor's load by global address: ordinary, prefix 0 (uncached) or prefix 1 (cached).
     pub fn supervisor_load(&mut self, width: u32, address: u64) -> Result<u32, Refusal> {
         self.supervisor_access(Kind::LOAD, width, address, 0)
@@ -254,21 +299,21 @@ where
     /// Remembers a line name: the first part of a load in two parts.
     pub fn tag(&mut self, name: u64) -> Result<(), Refusal> {
         let mut tag = self.tag_words();
-        let answer = call!(self, as_mut_ptr, oaledva_tag(&mut tag.set, &mut tag.name, name));
+        let answer = call!(self, as_mut_ptr, oaledva_tag(&mut tag.0, &mut tag.1, name));
         self.tagged_answer(answer, tag)
     }
 
     /// Loads the line of the pending name from the physical line to which it is mapped, and forgets the name.
     pub fn load_and_map(&mut self, line: usize) -> Result<(), Refusal> {
         let mut tag = self.tag_words();
-        let answer = call!(self, as_mut_ptr, oaledva_load_and_map(&mut tag.set, &mut tag.name, line));
+        let answer = call!(self, as_mut_ptr, oaledva_load_and_map(&mut tag.0, &mut tag.1, line));
         self.tagged_answer(answer, tag)
     }
 
     /// Forgets the pending name.
     pub fn drop_tag(&mut self) -> Result<(), Refusal> {
         let mut tag = self.tag_words();
-        let answer = call!(self, as_mut_ptr, oaledva_drop_tag(&mut tag.set, &mut tag.name));
+        let answer = call!(self, as_mut_ptr, oaledva_drop_tag(&mut tag.0, &mut tag.1));
         self.tagged_answer(answer, tag)
     }
 
@@ -353,31 +398,50 @@ where
         address: u32,
         value: u32,
     ) -> Result<u32, Refusal> {
-        let tag = self.tag_words();
-        let answer = call!(self, as_mut_ptr, oaledva_user_access(tag, process, kind, width, address, value));
+        let (set, name) = self.tag_words();
+        let answer = call!(self, as_mut_ptr, oaledva_user_access(set, name, process, kind, width, address, value));
         self.answer(answer)
     }
 
     fn supervisor_access(&mut self, kind: Kind, width: u32, address: u64, value: u32) -> Result<u32, Refusal> {
-        let tag = self.tag_words();
-        let answer = call!(self, as_mut_ptr, oaledva_supervisor_access(tag, kind, width, address, value));
+        let (set, name) = self.tag_words();
+        let answer = call!(self, as_mut_ptr, oaledva_supervisor_access(set, name, kind, width, address, value));
         self.answer(answer)
     }
 
-    /// The tag as the library takes it.
-    fn tag_words(&self) -> Pending {
-        self.pending.map_or(Pending { set: 0, name: 0 }, |name| Pending { set: 1, name })
+    /// The tag as the library takes it: `set` and `name`.
+    fn tag_words(&self) -> (u32, u64) {
+        self.pending.map_or((0, 0), |name| (1, name))
     }
 
     /// Keeps an answer's mark, and gives its value or its refusal.
     fn answer(&mut self, answer: Answer) -> Result<u32, Refusal> {
-        self.mark = Mark::of(answer.mark());
-        Refusal::of(answer.number()).map_or(Ok(answer.value()), Err)
+        self.mark = answer.marked();
+        answer.outcome()
     }
 
-    fn tagged_answer(&mut self, answer: Answer, tag: Pending) -> Result<(), Refusal> {
-        self.pending = (tag.set != 0).then_some(tag.name);
+    fn tagged_answer(&mut self, answer: Answer, (set, name): (u32, u64)) -> Result<(), Refusal> {
+        self.pending = (set != 0).then_some(name);
         self.answer(answer).map(drop)
+    }
+}
+
+/// As a list's answers are read.
+impl Answer {
+    /// What a load or a store by itself gives: the value, 0 for a store, or why it was refused.
+    ///
+    /// # Panics
+    /// At [`Answer::NONE`], which no call has written.
+    pub fn outcome(self) -> Result<u32, Refusal> {
+        Refusal::of(self.number()).map_or(Ok(self.value()), Err)
+    }
+
+    /// How the access went.
+    ///
+    /// # Panics
+    /// At [`Answer::NONE`], which no call has written.
+    pub fn marked(self) -> Mark {
+        Mark::of(self.mark())
     }
 }
 

@@ -1,7 +1,8 @@
 // The three texts that declare the library's functions say the same: the Rattle source, the C header and ffi.rs. Names, order,
 // types and what is only read are compared, in one common form: `name: type`, a slice as a pointer and a length. The header
-// and ffi.rs put some numbers into types of their own, which the source doesn't have: there such a type is its numbers. So are
-// the numbers with names compared, refusals and marks, and how an answer and an entry are packed.
+// and ffi.rs put some numbers into types of their own, which the source doesn't have: there such a type is its number. The
+// header alone has one of two numbers, the tag, which must be passed as these two are. So are the numbers with names compared,
+// refusals and marks, how an answer and an entry are packed, and how many words an access is.
 use std::collections::BTreeMap;
 
 /// A function's parameters and its result.
@@ -156,13 +157,47 @@ fn of_rust(declarations: &str) -> Functions {
     functions
 }
 
-/// As the source declares it: types of their own are their numbers. And the header and ffi.rs tell the two kinds of line apart
-/// by name; in the source the contract does.
+/// The arguments that go in registers.
+const IN_REGISTERS: usize = 6;
+
+/// The header's functions as ffi.rs declares them: a struct of two numbers by value, the tag, is these two. That is the same
+/// call where both ways are two words on the stack: the second number has 64 bits, so that it begins a word of the struct too,
+/// and no register is left for the struct, because as many arguments of a word each come before it. `None` where that is not so,
+/// and where a larger struct goes by value.
+fn tag_in_numbers(functions: Functions, types: &Types) -> Option<Functions> {
+    let mut all = Functions::new();
+    for (name, (parameters, result)) in functions {
+        let mut words = Vec::new();
+        for parameter in parameters {
+            let (_, kind) = parameter.split_once(": ")?;
+            match types.get(kind).map(Vec::as_slice) {
+                None | Some([_]) => words.push(parameter),
+                Some([one, other]) if other.ends_with(": u64") && words.len() >= IN_REGISTERS => {
+                    words.extend([one, other].map(String::clone));
+                }
+                _ => return None,
+            }
+        }
+        all.insert(name, (words, result));
+    }
+    Some(all)
+}
+
+/// As the source declares it: types of their own are their numbers, and many of a type of one number are many numbers. And the
+/// header and ffi.rs tell the two kinds of line apart by name; in the source the contract does.
 fn in_numbers(functions: Functions, types: &Types) -> Functions {
+    let many = |parameter: &str| {
+        let (pointer, element) = parameter.rsplit_once(' ')?;
+        match &types.get(element).filter(|_| pointer.contains('*'))?[..] {
+            [number] => Some(format!("{pointer} {}", number.split_once(": ")?.1)),
+            _ => None,
+        }
+    };
     let plain = |parameter: &String| {
         let (_, kind) = parameter.split_once(": ").unwrap();
-        let own = types.get(kind).cloned().unwrap_or_else(|| vec![parameter.clone()]);
-        own.iter()
+        let own = types.get(kind).cloned();
+        own.unwrap_or_else(|| vec![many(parameter).unwrap_or_else(|| parameter.clone())])
+            .iter()
             .map(|number| number.replace("line_name:", "line:").replace("physical_line:", "line:"))
             .collect::<Vec<_>>()
     };
@@ -220,28 +255,41 @@ fn numbered(declarations: &str) -> Numbers {
 fn the_source_the_header_and_the_crate_declare_the_same() {
     let mut source = of_rattle(&text("crates/oaledva/src/lib.rt"));
     source.extend(of_rattle(&text("crates/oaledva_user/src/lib.rt")));
-    assert_eq!(source.len(), 14);
+    source.extend(of_rattle(&text("crates/oaledva_list/src/lib.rt")));
+    assert_eq!(source.len(), 15);
     let (header, crates) = (text("include/oaledva.h"), text("rust/src/ffi.rs"));
     let types = types_of_c(&header);
     assert_eq!(
         types.keys().collect::<Vec<_>>(),
-        ["Answer", "Entry", "Kind", "Looked", "Pending", "Permission", "Place"]
+        ["Access", "Answer", "Entry", "Kind", "Looked", "Pending", "Permission", "Place"]
     );
-    assert_eq!(types, types_of_rust(&crates));
+    let mut shared = types.clone();
+    shared.remove("Pending");
+    assert_eq!(shared, types_of_rust(&crates));
     for kind in ["Answer", "Entry", "Looked", "Place"] {
         assert!(
             crates.contains(&format!("#[must_use]\n#[repr(transparent)]\npub struct {kind} {{")),
             "may be ignored: {kind}"
         );
     }
-    assert_eq!(of_c(&header), of_rust(&crates));
-    assert_eq!(in_numbers(of_c(&header), &types), source);
-    // A struct of two numbers is passed as they are, one after the other, only where no register is left: after six.
-    for (name, (parameters, _)) in of_c(&header) {
-        let kinds = parameters.iter().map(|parameter| parameter.split_once(": ").unwrap().1);
-        let early = kinds.take(6).filter(|&kind| types.get(kind).is_some_and(|numbers| numbers.len() > 1)).count();
-        assert_eq!(early, 0, "{name}");
-    }
+    let words = tag_in_numbers(of_c(&header), &types).expect("the tag is two words on the stack");
+    assert_eq!(words, of_rust(&crates));
+    assert_eq!(in_numbers(words, &types), source);
+}
+
+/// A slice of accesses is lent as one of words: each is so many, and none of them of another width.
+#[test]
+fn an_access_is_so_many_words() {
+    let (header, crates) = (text("include/oaledva.h"), text("rust/src/ffi.rs"));
+    let types = types_of_c(&header);
+    let words = types["Access"].iter().map(|field| match field.split_once(": ").unwrap().1 {
+        "Kind" => types["Kind"].iter().map(|number| number.split_once(": ").unwrap().1).collect(),
+        kind => vec![kind],
+    });
+    let words: Vec<&str> = words.flatten().collect();
+    assert_eq!(words, ["u32"; 5]);
+    assert_eq!(defined(&header)["ACCESS_WORDS"], words.len() as u64);
+    assert_eq!(constants(&crates)["ACCESS_WORDS"], words.len() as u64);
 }
 
 /// The marks have names in all three, the refusals in the header and the crate.
@@ -286,20 +334,41 @@ fn a_changed_declaration_shows() {
     };
     assert_ne!(of_rattle(&source), of_rattle(&changed(&source, "segment: u64", "segment: u32")));
     assert_ne!(of_rattle(&source), of_rattle(&changed(&source, "cache: &mut [u8]", "cache: &[u8]")));
+    let lists = text("crates/oaledva_list/src/lib.rt");
+    assert_ne!(of_rattle(&lists), of_rattle(&changed(&lists, "answers: &mut [u64]", "answers: &[u64]")));
+    assert_ne!(of_rattle(&lists), of_rattle(&changed(&lists, "accesses: &[u32]", "accesses: &[u64]")));
     let of_c_changed = |old, new| assert_ne!(of_c(&header), of_c(&changed(&header, old, new)));
     of_c_changed("    size_t process, size_t slot, ", "    size_t slot, size_t process, ");
     of_c_changed("ARGS size_t frames, size_t uncached", "ARGS size_t uncached, size_t frames");
     of_c_changed("const uint64_t *words", "uint64_t *words");
     of_c_changed("uint64_t page", "uint32_t page");
-    of_c_changed("oaledva_kind kind", "oaledva_permission kind");
+    of_c_changed("size_t process, oaledva_kind kind", "size_t process, oaledva_permission kind");
     of_c_changed("oaledva_place oaledva_look(", "oaledva_answer oaledva_look(");
     of_c_changed("entry_of_page(uint64_t page)", "entry_of_page(uint32_t page)");
     of_c_changed("oaledva_entry oaledva_entry_of_page", "oaledva_place oaledva_entry_of_page");
+    of_c_changed("    oaledva_answer *answers", "    const oaledva_answer *answers");
+    let narrow = changed(&header, "    oaledva_answer *answers", "    uint32_t *answers");
+    let types = types_of_c(&header);
+    assert_ne!(in_numbers(of_c(&header), &types), in_numbers(of_c(&narrow), &types));
+    assert_ne!(types, types_of_c(&changed(&header, "    uint32_t width;", "    uint64_t width;")));
+    assert_ne!(defined(&header), defined(&changed(&header, "OALEDVA_ACCESS_WORDS 5", "OALEDVA_ACCESS_WORDS 4")));
     assert_ne!(types_of_c(&header), types_of_c(&changed(&header, "    uint32_t set;", "    uint64_t set;")));
+    let tag_changed = |old, new| {
+        let changed = changed(&header, old, new);
+        tag_in_numbers(of_c(&changed), &types_of_c(&changed))
+    };
+    let tag = tag_in_numbers(of_c(&header), &types);
+    assert_ne!(tag, tag_changed("    uint32_t set;", "    uint64_t set;"));
+    assert_ne!(tag, tag_changed("    oaledva_pending tag,\n", ""));
+    assert_eq!(tag_changed("    uint64_t name;", "    uint32_t name;"), None); // both in one word
+    assert_eq!(tag_changed("    uint64_t name;", "    uint64_t name;\n    uint64_t more;"), None);
+    assert_eq!(tag_changed("ARGS size_t frames", "ARGS oaledva_pending tag, size_t frames"), None); // in registers
+    assert_eq!(tag_changed("    oaledva_pending tag,\n", "    oaledva_access tag,\n"), None);
     assert_ne!(types_of_rust(&crates), types_of_rust(&changed(&crates, "packed: u64", "packed: u32")));
     assert_ne!(types_of_rust(&crates), types_of_rust(&changed(&crates, "#[repr(transparent)]\npub", "pub")));
     assert_ne!(types_of_rust(&crates), types_of_rust(&changed(&crates, "#[repr(C)]", "#[repr(align(16))]")));
     assert_ne!(of_rust(&crates), of_rust(&changed(&crates, "page: u64", "page: u32")));
+    assert_ne!(of_rust(&crates), of_rust(&changed(&crates, "set: u32, name: u64", "name: u64, set: u32")));
     assert_ne!(of_rust(&crates), of_rust(&changed(&crates, "write memory", "read memory")));
     assert_ne!(of_rust(&crates), of_rust(&changed(&crates, "{ *mut $element }", "{ *const $element }")));
     assert_ne!(of_rust(&crates), of_rust(&changed(&crates, "frames: usize", "uncached: usize")));
@@ -313,6 +382,8 @@ fn a_changed_declaration_shows() {
     assert_ne!(defined(&header), defined(&changed(&header, "OALEDVA_MARK_MASK 0xff", "OALEDVA_MARK_MASK 0x7f")));
     assert_ne!(numbered(&marks), numbered(&changed(&marks, "Refilled = 2", "Refilled = 3")));
     assert_ne!(numbered(&marks), numbered(&changed(&marks, "    WroteBack =", "    Wroteback =")));
+    assert_ne!(of_rust(&crates), of_rust(&changed(&crates, "answers: *mut Answer", "answers: *mut u32")));
     assert_ne!(constants(&crates), constants(&changed(&crates, "MARK_AT: u32 = 32", "MARK_AT: u32 = 33")));
+    assert_ne!(constants(&crates), constants(&changed(&crates, "ACCESS_WORDS: usize = 5", "ACCESS_WORDS: usize = 4")));
     assert_ne!(constants(&board), constants(&changed(&board, "WROTE_BACK: u32 = 3", "WROTE_BACK: u32 = 2")));
 }

@@ -1,6 +1,6 @@
 /* What the header adds to the library's functions, tried: boards in static buffers and in a block, limits, the calls on a
- * board, values and widths, marks, look's bytes, entries. tests/c/run compiles this as C99, C11, C++11 and C++17 and runs
- * each. */
+ * board, lists of accesses, values and widths, marks, look's bytes, entries. tests/c/run compiles this as C99, C11, C++11 and
+ * C++17 and runs each. */
 #include <oaledva.h>
 #include <oaledva.h> /* twice is once */
 #include <stdio.h>
@@ -176,6 +176,115 @@ static void marks(void) {
     EXPECT(strcmp(went(oaledva_supervisor_access(OALEDVA_LEND(b), b.tag, OALEDVA_LOAD, 4, 8, 0)), "uncached") == 0);
 }
 
+/* The page under segment 2048 may be written, the one under 2049 not; process 1 has 2048 read-only; slot 2 of process 0 has no
+ * page. */
+static void listed_board(oaledva_board *b, void *block, size_t bytes) {
+    EXPECT(gives(oaledva_board_fresh(b, 4, 1, 2, 2, block, bytes), 0, 0, 0));
+    EXPECT(oaledva_done(oaledva_board_map(b, PAGE, 1, OALEDVA_WRITABLE)));
+    EXPECT(oaledva_done(oaledva_board_map(b, PAGE + 1024, 2, OALEDVA_READ_ONLY)));
+    for (size_t slot = 0; slot < 3; slot++)
+        EXPECT(oaledva_done(oaledva_board_attach(b, 0, slot, 2048 + slot, OALEDVA_WRITABLE)));
+    EXPECT(oaledva_done(oaledva_board_attach(b, 1, 0, 2048, OALEDVA_READ_ONLY)));
+}
+
+/* A list has the answers of its accesses by themselves, and leaves the same board: the list goes to one board, the single
+ * accesses to an equal one. */
+static void lists(void) {
+    /* Each number that an access may get but 1 and 3, and between them hits, refills and a write-back. */
+    const struct {
+        oaledva_access access;
+        uint32_t number, value, mark;
+    } given[] = {{oaledva_store_access(0, 4, 0, 50), 0, 0, OALEDVA_REFILLED},
+                 {oaledva_store_access(1, 4, 0, 51), OALEDVA_SLOT_READ_ONLY, 0, 0},
+                 {oaledva_load_access(1, 1, 3), 0, 50, OALEDVA_HIT},
+                 {oaledva_load_access(2, 1, 3), OALEDVA_RANGE, 0, 0},
+                 {oaledva_load_access((size_t)1 << 32, 1, 3), OALEDVA_RANGE, 0, 0}, /* not cut to process 0 */
+                 {oaledva_store_access(0, 1, 3, 256), OALEDVA_RANGE, 0, 0},
+                 {oaledva_load_access(0, 4, 32), 0, 0, OALEDVA_WROTE_BACK},
+                 {oaledva_load_access(0, 4, 2), OALEDVA_ALIGNMENT, 0, 0},
+                 {oaledva_load_access(0, 1, (uint64_t)1 << 31), OALEDVA_KERNEL, 0, 0},
+                 {oaledva_store_access(0, 1, (uint64_t)1 << 32, 1), OALEDVA_KERNEL, 0, 0}, /* not cut to address 0 */
+                 {oaledva_load_access(0, 1, 3u << 22), OALEDVA_SLOT_EMPTY, 0, 0},
+                 {oaledva_load_access(0, 1, 2u << 22), OALEDVA_NOT_MAPPED, 0, 0},
+                 {oaledva_store_access(0, 1, 1u << 22, 1), OALEDVA_PAGE_READ_ONLY, 0, 0},
+                 {oaledva_load_access(0, 4, 0), 0, 50, OALEDVA_REFILLED},
+                 {oaledva_store_access(0, 1, 2, 0x51), 0, 0, OALEDVA_HIT},
+                 {oaledva_load_access(0, 2, 2), 0, 0x5132, OALEDVA_HIT}};
+    enum { LISTED = OALEDVA_COUNT(given) };
+    oaledva_access list[LISTED];
+    const size_t bytes = oaledva_board_bytes(4, 1, 2, 2);
+    void *const blocks[2] = {malloc(bytes), malloc(bytes)};
+    oaledva_board b, single;
+    oaledva_answer answers[LISTED + 1], before[LISTED + 1]; /* one more, which no list here may touch */
+    for (size_t i = 0; i < LISTED; i++) list[i] = given[i].access;
+    memset(answers, 0xa5, sizeof answers);
+    memcpy(before, answers, sizeof answers);
+    listed_board(&b, blocks[0], bytes);
+    listed_board(&single, blocks[1], bytes);
+
+    /* Lengths that differ, also where five times the longer does not fit, and an empty list. Nothing changes. */
+    EXPECT(gives(oaledva_board_accesses(&b, list, LISTED, answers, LISTED - 1), OALEDVA_SHAPE, 0, 0));
+    EXPECT(gives(oaledva_board_accesses(&b, list, LISTED - 1, answers, LISTED), OALEDVA_SHAPE, 0, 0));
+    EXPECT(gives(oaledva_board_accesses(&b, list, LISTED, NULL, 0), OALEDVA_SHAPE, 0, 0));
+    EXPECT(gives(oaledva_board_accesses(&b, NULL, 0, answers, LISTED), OALEDVA_SHAPE, 0, 0));
+    EXPECT(gives(oaledva_board_accesses(&b, list, SIZE_MAX / 5 + 1, answers, LISTED), OALEDVA_SHAPE, 0, 0));
+    EXPECT(gives(oaledva_board_accesses(&b, list, SIZE_MAX, answers, 0), OALEDVA_SHAPE, 0, 0));
+    EXPECT(gives(oaledva_board_accesses(&b, list, SIZE_MAX, answers, LISTED), OALEDVA_SHAPE, 0, 0));
+    EXPECT(gives(oaledva_board_accesses(&b, NULL, 0, NULL, 0), 0, 0, 0));
+    EXPECT(gives(oaledva_board_accesses(&b, list, 0, answers, 0), 0, 0, 0));
+    EXPECT(memcmp(answers, before, sizeof answers) == 0 && memcmp(blocks[0], blocks[1], bytes) == 0);
+
+    EXPECT(gives(oaledva_board_accesses(&b, list, LISTED, answers, LISTED), 0, 0, OALEDVA_NO_ACCESS));
+    for (size_t i = 0; i < LISTED; i++) {
+        const oaledva_access one = list[i];
+        const oaledva_answer alone = oaledva_user_access(OALEDVA_LEND(single), single.tag, one.process, one.kind, one.width,
+                                                         one.address, one.value);
+        EXPECT(gives(answers[i], given[i].number, given[i].value, given[i].mark) && answers[i].packed == alone.packed);
+    }
+    EXPECT(memcmp(&answers[LISTED], &before[LISTED], sizeof *answers) == 0 && memcmp(blocks[0], blocks[1], bytes) == 0);
+
+    /* While a tag is pending each is refused by 3, or by 2, and the board and its tag stay. */
+    EXPECT(oaledva_done(oaledva_board_tag(&b, PAGE * 256)));
+    EXPECT(gives(oaledva_board_accesses(&b, list, LISTED, answers, LISTED), 0, 0, OALEDVA_NO_ACCESS));
+    for (size_t i = 0; i < LISTED; i++)
+        EXPECT(gives(answers[i], given[i].number == OALEDVA_RANGE ? OALEDVA_RANGE : OALEDVA_TAG, 0, 0));
+    EXPECT(b.tag.set == 1 && b.tag.name == PAGE * 256 && memcmp(blocks[0], blocks[1], bytes) == 0);
+    EXPECT(oaledva_done(oaledva_board_drop_tag(&b)));
+
+    /* The same by each buffer, in words: anything but 0 is a store. */
+    {
+        static const uint32_t words[2 * OALEDVA_ACCESS_WORDS] = {0, 2, 4, 8, 77, 0, 0, 1, 11, UINT32_MAX};
+        memcpy(answers, before, sizeof answers);
+        EXPECT(gives(oaledva_user_accesses(OALEDVA_LEND(b), b.tag, words, 9, answers, 2), OALEDVA_SHAPE, 0, 0));
+        EXPECT(gives(oaledva_user_accesses(OALEDVA_LEND(b), b.tag, words, 10, answers, 1), OALEDVA_SHAPE, 0, 0));
+        EXPECT(gives(oaledva_user_accesses(OALEDVA_LEND(b), b.tag, words, 2, answers, 2), OALEDVA_SHAPE, 0, 0));
+        EXPECT(memcmp(answers, before, sizeof answers) == 0 && memcmp(blocks[0], blocks[1], bytes) == 0);
+        EXPECT(gives(oaledva_user_accesses(OALEDVA_LEND(b), b.tag, words, 10, answers, 2), 0, 0, OALEDVA_NO_ACCESS));
+        EXPECT(gives(answers[0], 0, 0, OALEDVA_HIT) && gives(answers[1], 0, 77, OALEDVA_HIT));
+    }
+
+    /* A board that does not fit: no answer is written, and an empty list is refused too. */
+    b.lines = 4;
+    memcpy(answers, before, sizeof answers);
+    EXPECT(gives(oaledva_board_accesses(&b, list, LISTED, answers, LISTED), OALEDVA_SHAPE, 0, 0));
+    EXPECT(gives(oaledva_board_accesses(&b, NULL, 0, NULL, 0), OALEDVA_SHAPE, 0, 0));
+    EXPECT(memcmp(answers, before, sizeof answers) == 0);
+    free(blocks[0]);
+    free(blocks[1]);
+}
+
+/* What the two make of numbers that are no process and no user's address, and of those that are. */
+static void made_accesses(void) {
+    const oaledva_access load = oaledva_load_access(3, 2, 0x7ffffffe);
+    const oaledva_access store = oaledva_store_access(UINT32_MAX, 1, ((uint64_t)1 << 32) + 5, 9);
+    EXPECT(load.process == 3 && load.kind.store == 0 && load.width == 2 && load.address == 0x7ffffffe && load.value == 0);
+    EXPECT(store.process == UINT32_MAX && store.kind.store != 0 && store.width == 1 && store.value == 9);
+    EXPECT(store.address == ((uint32_t)1 << 31) + 5);
+    EXPECT(oaledva_load_access((size_t)1 << 32, 1, 0).process == UINT32_MAX);
+    EXPECT(oaledva_store_access(SIZE_MAX, 1, 0, 0).process == UINT32_MAX);
+    EXPECT(sizeof(oaledva_access) == 20 && OALEDVA_ACCESS_WORDS == 5);
+}
+
 /* How an answer is taken apart, at the ends of its parts: each alone, all at once, and the bits between, which are no part. */
 static void packing(void) {
     static const struct {
@@ -253,6 +362,7 @@ static void has_none(oaledva_board *b) {
     EXPECT(gives(oaledva_board_load(b, 0, 1, 0), OALEDVA_SHAPE, 0, 0));
     EXPECT(gives(oaledva_board_flush_all(b), OALEDVA_SHAPE, 0, 0));
     EXPECT(gives(oaledva_board_drop_tag(b), OALEDVA_SHAPE, 0, 0));
+    EXPECT(gives(oaledva_board_accesses(b, NULL, 0, NULL, 0), OALEDVA_SHAPE, 0, 0));
     EXPECT(oaledva_board_look(b, 0) == NULL && oaledva_board_look_number(b, 0).number == OALEDVA_SHAPE);
 }
 
@@ -331,6 +441,8 @@ int main(void) {
     limits();
     values();
     marks();
+    lists();
+    made_accesses();
     packing();
     entries();
     return 0;

@@ -3,6 +3,9 @@
 #include <oaledva.h>
 
 OALEDVA_STATIC_BOARD(b, 4, 1, 2, 2);
+static oaledva_access list[1];
+static uint32_t words[OALEDVA_ACCESS_WORDS];
+static oaledva_answer answers[1];
 
 void ignore_all(void *block, oaledva_answer a, oaledva_place place, oaledva_entry entry);
 void ignore_all(void *block, oaledva_answer a, oaledva_place place, oaledva_entry entry) {
@@ -16,6 +19,7 @@ void ignore_all(void *block, oaledva_answer a, oaledva_place place, oaledva_entr
     oaledva_entry_address(entry);
     oaledva_board_bytes(4, 1, 2, 2);
     oaledva_user_access(OALEDVA_LEND(b), b.tag, 0, OALEDVA_LOAD, 4, 0, 0);
+    oaledva_user_accesses(OALEDVA_LEND(b), b.tag, words, OALEDVA_COUNT(words), answers, 1);
     oaledva_supervisor_access(OALEDVA_LEND(b), b.tag, OALEDVA_LOAD, 4, 0, 0);
     oaledva_attach(OALEDVA_LEND(b), 0, 0, 2048, OALEDVA_WRITABLE);
     oaledva_detach(OALEDVA_LEND(b), 0, 0);
@@ -33,6 +37,9 @@ void ignore_all(void *block, oaledva_answer a, oaledva_place place, oaledva_entr
     oaledva_board_fresh(&b, 4, 1, 2, 2, block, 0);
     oaledva_board_load(&b, 0, 4, 0);
     oaledva_board_store(&b, 0, 4, 0, 50);
+    oaledva_load_access(0, 4, 0);
+    oaledva_store_access(0, 4, 0, 50);
+    oaledva_board_accesses(&b, list, 1, answers, 1);
     oaledva_board_supervisor_load(&b, 4, 0);
     oaledva_board_supervisor_store(&b, 4, 0, 50);
     oaledva_board_attach(&b, 0, 0, 2048, OALEDVA_WRITABLE);
