@@ -291,7 +291,7 @@ fn flush_facts(board: &Board) -> Before {
 }
 
 /// The one number or length that makes a board unfit, all others being right.
-fn cause_of_one(board: &Board) -> Option<Case> {
+pub fn cause_of_one(board: &Board) -> Option<Case> {
     let (s, n) = (&board.shape, &board.lengths());
     if s.frames > FRAMES_MAX {
         return Some(Case::FramesOver);

@@ -1,9 +1,11 @@
 //! What was reached: each refusal number of each call, each case, each route of each call, each mark of each call by each route,
-//! each call at the limits of P and L, each value at the end of a width beside each number, each sight at a page's places; and
-//! what must be.
+//! each call at the limits of P and L, each value at the end of a width beside each number, each sight at a page's places, what
+//! lists meet; and what must be.
 
 use crate::cases::{Case, Reach, CASES};
 use crate::limits::{ENTRY_PAGES, LINES_MAX, MARKS, PROCESSES_MAX, VALUES, WIDTHS};
+use crate::list_runs::CAUSES;
+use crate::lists::{self, Reached, Tally, ENDS, SPOTS};
 use crate::marks::{self, MARKED, OUTCOMES};
 use crate::routes::{Route, ROUTES};
 use crate::sights::{Sight, Size, Sweep, SIGHTS, SIZES, SWEEPS};
@@ -15,8 +17,8 @@ use std::fmt::{Arguments, Write};
 /// The numbers end here.
 const NUMBERS: usize = 14;
 
-/// Each call with the numbers that it may give: by 01, and an entry by CR 5.
-pub const KINDS: [(&str, &[u32]); 14] = [
+/// Each call with the numbers that it may give: by 01, an entry by CR 5, a list by CR 12.
+pub const KINDS: [(&str, &[u32]); 15] = [
     ("user access", &[0, 1, 2, 3, 4, 5, 6, 7, 8, 9]),
     ("supervisor access", &[0, 1, 2, 3, 4, 8, 10, 12]),
     ("attach", &[0, 1, 2]),
@@ -28,14 +30,16 @@ pub const KINDS: [(&str, &[u32]); 14] = [
     ("tag", &[0, 1, 2, 3]),
     ("load-and-map", &[0, 1, 2, 3, 8, 13]),
     ("drop tag", &[0, 1, 3]),
+    ("user accesses", &[0, 1]),
     ("look", &[0, 1, 2]),
     ("look's number", &[0, 1, 2]),
     ("entry of a page", &[0, 2]),
 ];
 
-/// Where the looks begin among them, and where the entries.
-const LOOKS: usize = 11;
-const ENTRIES: usize = 13;
+/// The lists among them; where the looks begin, and where the entries.
+const LISTS: usize = 11;
+const LOOKS: usize = 12;
+const ENTRIES: usize = 14;
 
 /// The row of a deed in `KINDS`; an audit is no call.
 fn row_of(deed: &Deed) -> Option<usize> {
@@ -51,6 +55,7 @@ fn row_of(deed: &Deed) -> Option<usize> {
         Deed::Call(Call::Tag { .. }) => 8,
         Deed::Call(Call::LoadAndMap { .. }) => 9,
         Deed::Call(Call::DropTag) => 10,
+        Deed::List(_) => LISTS,
         Deed::Look { .. } => LOOKS,
         Deed::LookNumber { .. } => LOOKS + 1,
         Deed::Entry { .. } => ENTRIES,
@@ -82,11 +87,22 @@ pub enum Planned {
     Values,
     /// Of `places.rs`.
     Places,
+    /// Of `list_runs.rs`.
+    Lists,
 }
 
 /// Whether this call may give this number.
 pub fn in_table(deed: &Deed, number: u32) -> bool {
     row_of(deed).map_or(true, |row| KINDS[row].1.contains(&number))
+}
+
+/// The same of a list, and of an access in one, which has no 1.
+pub fn in_table_of_lists(number: u32) -> bool {
+    KINDS[LISTS].1.contains(&number)
+}
+
+pub fn in_table_of_items(number: u32) -> bool {
+    number != 1 && KINDS[0].1.contains(&number)
 }
 
 /// Counts of one kind of board, fresh or wild.
@@ -104,7 +120,22 @@ struct Counts {
     values: [[[[u64; VALUES.len()]; WIDTHS.len()]; ROWS.len()]; ROUTES.len()],
     /// The sweeps by each route, with each of `SIZES`, that met each of `SIGHTS`.
     sights: [[[[u64; SIGHTS.len()]; SIZES.len()]; SWEEPS.len()]; ROUTES.len()],
+    lists: [ListCounts; ROUTES.len()],
 }
+
+/// Counts of lists, by one route.
+#[derive(Clone, Copy)]
+struct ListCounts {
+    /// The accesses at each of `SPOTS` that came out as each of `ENDS`.
+    ends: [[u64; ENDS.len()]; SPOTS.len()],
+    /// The lists that met each of the sights.
+    sights: [u64; lists::SIGHTS.len()],
+    /// Those refused by the board for each of `CAUSES` alone.
+    causes: [u64; CAUSES.len()],
+}
+
+const NO_LISTS: ListCounts =
+    ListCounts { ends: [[0; ENDS.len()]; SPOTS.len()], sights: [0; lists::SIGHTS.len()], causes: [0; CAUSES.len()] };
 
 const NONE: Counts = Counts {
     numbers: [[0; NUMBERS]; KINDS.len()],
@@ -114,6 +145,7 @@ const NONE: Counts = Counts {
     edges: [[[0; ENTRIES]; ROUTES.len()]; EDGES.len()],
     values: [[[[0; VALUES.len()]; WIDTHS.len()]; ROWS.len()]; ROUTES.len()],
     sights: [[[[0; SIGHTS.len()]; SIZES.len()]; SWEEPS.len()]; ROUTES.len()],
+    lists: [NO_LISTS; ROUTES.len()],
 };
 
 #[derive(Clone)]
@@ -132,6 +164,8 @@ pub struct Coverage {
     pub pairs: u64,
     pub pairs_hit: u64,
     pub pairs_write_back: u64,
+    /// Those in which a list with accesses of the process had other accesses of the others.
+    pub pairs_list: u64,
 }
 
 impl Coverage {
@@ -148,6 +182,7 @@ impl Coverage {
             pairs: 0,
             pairs_hit: 0,
             pairs_write_back: 0,
+            pairs_list: 0,
         }
     }
 
@@ -175,23 +210,47 @@ impl Coverage {
         }
     }
 
-    pub fn count(&mut self, fresh: bool, deed: &Deed, route: Route, number: u32, cases: &[Case]) {
+    /// A list, and what it met in whatever run.
+    pub fn count_list(&mut self, fresh: bool, route: Route, number: u32, tally: &Tally) {
+        self.count_row(fresh, LISTS, route, number);
         let counts = if fresh { &mut self.fresh } else { &mut self.wild };
-        let row = row_of(deed);
+        let counts = &mut counts.lists[route as usize];
+        for &(spot, end) in &tally.ends {
+            counts.ends[spot][end] += 1;
+        }
+        for &sight in &tally.sights {
+            counts.sights[sight as usize] += 1;
+        }
+        if let Some(cause) = CAUSES.iter().position(|(cause, _)| tally.cause == Some(*cause)) {
+            counts.causes[cause] += 1;
+        }
+    }
+
+    /// The number of a call, in a random run or at a limit.
+    fn count_row(&mut self, fresh: bool, row: usize, route: Route, number: u32) {
+        let counts = if fresh { &mut self.fresh } else { &mut self.wild };
         match self.planned {
             Some(Planned::Edge(edge)) => {
-                if let Some(row) = row.filter(|&row| row < ENTRIES && number == EDGES[edge].number) {
+                if row < ENTRIES && number == EDGES[edge].number {
                     counts.edges[edge][route as usize][row] += 1;
                 }
-                return;
             }
-            Some(Planned::Values | Planned::Places) => return,
-            None => {}
+            Some(Planned::Values | Planned::Places | Planned::Lists) => {}
+            None => {
+                counts.numbers[row][number as usize] += 1;
+                self.routes[route as usize][row] += 1;
+            }
         }
-        if let Some(row) = row {
-            counts.numbers[row][number as usize] += 1;
-            self.routes[route as usize][row] += 1;
+    }
+
+    pub fn count(&mut self, fresh: bool, deed: &Deed, route: Route, number: u32, cases: &[Case]) {
+        if let Some(row) = row_of(deed) {
+            self.count_row(fresh, row, route, number);
         }
+        if self.planned.is_some() {
+            return;
+        }
+        let counts = if fresh { &mut self.fresh } else { &mut self.wild };
         for &case in cases {
             counts.cases[case as usize] += 1;
         }
@@ -228,13 +287,13 @@ impl Coverage {
     }
 
     /// Shows everything that must be reached, in words, with its count. But for the boards past a limit, number 1 cannot come on
-    /// a fresh board: there numbers and lengths agree. All else that a sequence of calls from a fresh board reaches must be
-    /// reached on one.
+    /// a fresh board, where numbers and lengths agree, unless a list brings it. All else that a sequence of calls from a fresh
+    /// board reaches must be reached on one.
     pub fn each_required(&mut self, mut see: impl FnMut(Arguments, &mut u64)) {
         for (counts, board) in [(&mut self.fresh, "fresh"), (&mut self.wild, "wild")] {
-            for (row, (call, table)) in counts.numbers.iter_mut().zip(&KINDS) {
-                for (number, count) in row.iter_mut().enumerate() {
-                    if table.contains(&(number as u32)) && (number != 1 || board == "wild") {
+            for (row, (counts, (call, table))) in counts.numbers.iter_mut().zip(&KINDS).enumerate() {
+                for (number, count) in counts.iter_mut().enumerate() {
+                    if table.contains(&(number as u32)) && (number != 1 || board == "wild" || row == LISTS) {
                         see(format_args!("{call}, number {number}, on a {board} board"), count);
                     }
                 }
@@ -287,6 +346,22 @@ impl Coverage {
                     }
                 }
             }
+            for (counts, (route, name)) in counts.lists.iter_mut().zip(ROUTES) {
+                for (counts, (_, spot)) in counts.ends.iter_mut().zip(SPOTS) {
+                    for (count, end) in counts.iter_mut().zip(ENDS) {
+                        see(format_args!("an access {spot}: {end}, by the {name} route, on a {board} board"), count);
+                    }
+                }
+                for (count, (_, words, routes, reached)) in counts.sights.iter_mut().zip(lists::SIGHTS) {
+                    if routes.contains(&route) && (*reached == Reached::Anywhere || board == "wild") {
+                        see(format_args!("a list, {words}, by the {name} route, on a {board} board"), count);
+                    }
+                }
+                for (count, (cause, _)) in counts.causes.iter_mut().zip(&CAUSES).filter(|_| board == "wild") {
+                    let (_, _, words) = CASES[*cause as usize];
+                    see(format_args!("a list, {words}, by the {name} route, on a {board} board"), count);
+                }
+            }
         }
         for (row, (_, route)) in self.routes.iter_mut().zip(&ROUTES) {
             for (count, (call, _)) in row.iter_mut().zip(&KINDS) {
@@ -297,6 +372,7 @@ impl Coverage {
         see(format_args!("a pair of runs"), &mut self.pairs);
         see(format_args!("a pair of runs with a hit in one only"), &mut self.pairs_hit);
         see(format_args!("a pair of runs with a refill's write-back in one only"), &mut self.pairs_write_back);
+        see(format_args!("a pair of runs with a list in which the others' accesses differ"), &mut self.pairs_list);
     }
 
     /// What was not reached, and what was though no sequence of calls should.
@@ -352,6 +428,20 @@ impl Coverage {
         for (index, (_, words, _)) in SIGHTS.iter().enumerate() {
             let met =
                 |counts: &Counts| counts.sights.iter().flatten().flatten().map(|counts| counts[index]).sum::<u64>();
+            writeln!(text, "{:>7}{:>7}  {words}", met(&self.fresh), met(&self.wild)).expect(line);
+        }
+        writeln!(text, "\n  alone  first middle   last  accesses in lists").expect(line);
+        for (index, end) in ENDS.iter().enumerate() {
+            for (spot, _) in SPOTS {
+                let by_route = self.fresh.lists.iter().chain(&self.wild.lists);
+                let count: u64 = by_route.map(|counts| counts.ends[spot as usize][index]).sum();
+                write!(text, "{count:>7}").expect(line);
+            }
+            writeln!(text, "  {end}").expect(line);
+        }
+        writeln!(text, "\n  fresh   wild  lists").expect(line);
+        for (index, (_, words, ..)) in lists::SIGHTS.iter().enumerate() {
+            let met = |counts: &Counts| counts.lists.iter().map(|counts| counts.sights[index]).sum::<u64>();
             writeln!(text, "{:>7}{:>7}  {words}", met(&self.fresh), met(&self.wild)).expect(line);
         }
         text

@@ -4,6 +4,7 @@
 
 use crate::coverage::{Coverage, Planned, EDGES};
 use crate::limits::*;
+use crate::lists::{Item, List};
 use crate::pairs::Failure;
 use crate::plant::Plant;
 use crate::rng::Rng;
@@ -46,9 +47,13 @@ fn deeds(board: &Board) -> Vec<Deed> {
     ];
     let ends = [Call::Unmap { page: PAGE }, Call::Detach { process, slot: SLOT }, Call::FlushAll];
     let first = board.tag.0.then_some(Call::DropTag);
+    // A list, one of its accesses refused.
+    let absent = Call::UserAccess { process: process + 1, store: false, width: 1, address: 0, value: 0 };
+    let items = [user(true, 7), absent, user(false, 0)].iter().filter_map(|call| Item::of(call, 1)).collect();
+    let list = [Deed::Call(Call::Protect { page: PAGE, write: true }), Deed::List(List::of(items))];
     let looks = [Deed::Look { line: LINE }, Deed::LookNumber { line: LINE }, Deed::Audit];
     let calls = first.into_iter().chain(calls).map(Deed::Call);
-    calls.chain(looks).chain(ends.map(Deed::Call)).chain([Deed::Audit]).collect()
+    calls.chain(list).chain(looks).chain(ends.map(Deed::Call)).chain([Deed::Audit]).collect()
 }
 
 /// A board on which the deeds can be done. On the wild one a tag is pending, whatever its name. On neither is a name left over
@@ -75,7 +80,7 @@ pub fn edges(rng: &mut Rng, plant: Option<Plant>, coverage: &mut Coverage) -> Re
         for (fresh, manner) in ways() {
             let start = start(rng, shape, fresh);
             let deeds = deeds(&start.board);
-            stepped(start, deeds.len(), plant, coverage, |index, _| Step { deed: deeds[index], manner })?;
+            stepped(start, deeds.len(), plant, coverage, |index, _| Step { deed: deeds[index].clone(), manner })?;
             boards += 1;
         }
     }

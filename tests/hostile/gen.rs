@@ -3,6 +3,7 @@
 
 use crate::guarded::STARTS;
 use crate::limits::*;
+use crate::lists::{Item, List};
 use crate::rng::Rng;
 use crate::routes::{Manner, ROUTES};
 use crate::trace::{Deed, Start, Step};
@@ -257,13 +258,13 @@ fn spoil(rng: &mut Rng, board: &mut Board) {
 }
 
 /// Another P with the slots that 512 × P, as 64 bits, asks for.
-fn set_processes(board: &mut Board, processes: u64) {
+pub fn set_processes(board: &mut Board, processes: u64) {
     board.shape.processes = processes;
     board.slots.resize(SLOTS.wrapping_mul(processes) as usize, 0);
 }
 
 /// Another L, likewise.
-fn set_lines(board: &mut Board, lines: u64) {
+pub fn set_lines(board: &mut Board, lines: u64) {
     board.shape.lines = lines;
     board.records.resize(lines.wrapping_mul(2) as usize, 0);
     board.cache.resize(lines.wrapping_mul(LINE_BYTES) as usize, 0);
@@ -279,20 +280,26 @@ fn resize<T: Clone + Default>(rng: &mut Rng, buffer: &mut Vec<T>) {
 // Steps
 // ---------------------------------------------------------------------------------------------
 
-/// Any step: mostly a call, sometimes a look or the entry of a page. `early` is for the first steps of a fresh board, which
-/// should build something.
+/// Any step: mostly a call, sometimes a list, a look or the entry of a page. `early` is for the first steps of a fresh board,
+/// which should build something.
 pub fn step(rng: &mut Rng, world: &World, board: &Board, early: bool) -> Step {
     let deed = match rng.below(100) {
         0..=7 => Deed::Look { line: physical_line(rng, world, board) },
         8..=11 => Deed::LookNumber { line: physical_line(rng, world, board) },
         12..=15 => Deed::Entry { page: entry_page(rng, world) },
+        16..=19 => Deed::List(list(rng, world, board)),
         _ => Deed::Call(call(rng, world, board, early)),
     };
     Step { deed, manner: manner(rng) }
 }
 
 pub fn manner(rng: &mut Rng) -> Manner {
-    Manner { route: rng.pick(&ROUTES).0, yes: rng.pick(&[1, 1, 2, 0x8000_0000, u32::MAX]), null: rng.flip() }
+    Manner { route: rng.pick(&ROUTES).0, yes: yes(rng), null: rng.flip() }
+}
+
+/// A number that says yes.
+fn yes(rng: &mut Rng) -> u32 {
+    rng.pick(&[1, 1, 2, 0x8000_0000, u32::MAX])
 }
 
 pub fn call(rng: &mut Rng, world: &World, board: &Board, early: bool) -> Call {
@@ -391,6 +398,75 @@ pub fn user_access(rng: &mut Rng, world: &World, board: &Board, process: u64) ->
     }
     let address = (slot * SEGMENT_SPAN + within) as u32;
     Call::UserAccess { process, store: rng.flip(), width, address, value: value(rng, width) }
+}
+
+/// A list, one in seven with too few or too many words or answers.
+pub fn list(rng: &mut Rng, world: &World, board: &Board) -> List {
+    let mut list = fitting_list(rng, world, board);
+    let accesses = list.items.len();
+    if rng.below(7) == 0 {
+        let many = 2 * accesses + 1 + rng.below(20) as usize;
+        match rng.below(7) {
+            0 => list.answers = accesses.saturating_sub(1),
+            1 => list.answers = accesses + 1,
+            2 => list.answers = 0,
+            3 => list.answers = many,
+            4 => list.answers = ACCESS_WORDS * accesses,
+            _ => {
+                list.torn = (0..1 + rng.below(ACCESS_WORDS as u64 - 1)).map(|_| rng.next() as u32).collect();
+                list.answers = accesses + rng.below(2) as usize;
+            }
+        }
+    }
+    list
+}
+
+/// A list with an answer for each access: of none, of one, two or a few, or of some tens.
+pub fn fitting_list(rng: &mut Rng, world: &World, board: &Board) -> List {
+    let length = match rng.below(20) {
+        0 | 1 => 0,
+        2..=5 => 1,
+        6..=8 => 2,
+        9..=16 => 3 + rng.below(7),
+        _ => 10 + rng.below(30),
+    };
+    let mut items = Vec::new();
+    for _ in 0..length {
+        let item = match rng.pick_any(&items) {
+            Some(earlier) if rng.percent(45) => again(rng, board, earlier),
+            _ => item(rng, world, board),
+        };
+        items.push(item);
+    }
+    let stain = if rng.percent(80) { rng.next() } else { rng.pick(&[0, u64::MAX]) };
+    let [first, second, ..] = offsets(rng);
+    List { stain, offsets: [first, second], ..List::of(items) }
+}
+
+/// An access for a list: as one by itself, and as often bad.
+fn item(rng: &mut Rng, world: &World, board: &Board) -> Item {
+    let process = process(rng, board);
+    let good = user_access(rng, world, board, process);
+    let call = if rng.percent(10) { bad_call(rng, world, board, good) } else { good };
+    let mut item = Item::of(&call, yes(rng)).expect("a user access");
+    if rng.percent(1) {
+        // Right in its low bits.
+        item.process |= rng.pick(&[1 << 8, 1 << 16, 1 << 31]);
+    }
+    if item.store == 0 && rng.flip() {
+        // As a load that brings none.
+        item.value = 0;
+    }
+    item
+}
+
+/// An access to the line of an earlier one of its list, now and then by another process.
+fn again(rng: &mut Rng, board: &Board, earlier: Item) -> Item {
+    let (byte, width) = byte_and_width(rng);
+    let process = if rng.percent(20) { process(rng, board) } else { earlier.process };
+    let address = earlier.address - earlier.address % LINE_BYTES as u32 + byte as u32;
+    let store = if rng.flip() { yes(rng) } else { 0 };
+    Item { process, store, width, address, value: value(rng, width) }
 }
 
 fn supervisor_access(rng: &mut Rng, world: &World, board: &Board) -> Call {

@@ -149,6 +149,19 @@ impl<T: Element> Guarded<T> {
     }
 }
 
+/// The two buffers of a list, as the library gets them.
+pub struct Lists {
+    pub accesses: Guarded<u32>,
+    pub answers: Guarded<u64>,
+}
+
+impl Lists {
+    pub fn broken(&self) -> Option<&'static str> {
+        let intact = [("the accesses", self.accesses.intact()), ("the answers", self.answers.intact())];
+        intact.iter().find(|(_, intact)| !intact).map(|&(name, _)| name)
+    }
+}
+
 /// The board that the library gets. The tag's two words stand between canaries as well.
 pub struct Real {
     pub shape: Shape,

@@ -4,8 +4,9 @@
 
 use crate::guarded::{Guarded, Real};
 use crate::limits::*;
+use crate::lists::{Item, List};
 use crate::routes::{self, Manner, Route, ROUTES};
-use model::{Board, Call, Shape};
+use model::{Answer, Board, Call, Shape};
 
 const UNCACHED: u64 = 1;
 
@@ -25,10 +26,10 @@ fn calls(frames: u64) -> Vec<Call> {
         Call::Map { page: PAGE_FIRST, frame: frames, write: true },
         Call::Map { page: PAGE_FIRST, frame: last, write: true },
         Call::Attach { process: 0, slot: 0, segment: SEGMENT_FIRST, write: true },
-        Call::UserAccess { process: 0, store: true, width: 1, address: 4095, value: 7 },
-        Call::UserAccess { process: 0, store: false, width: 4, address: 4092, value: 0 },
+        user(true, 1, 4095, 7),
+        user(false, 4, 4092, 0),
         Call::Protect { page: PAGE_FIRST, write: false },
-        Call::UserAccess { process: 0, store: true, width: 1, address: 4095, value: 8 },
+        user(true, 1, 4095, 8),
         Call::Unmap { page: PAGE_FIRST },
         Call::Map { page: PAGE_FIRST, frame: last, write: false },
         Call::Tag { name: PAGE_FIRST * LINES_PER_PAGE + 255 },
@@ -39,6 +40,17 @@ fn calls(frames: u64) -> Vec<Call> {
         Call::Detach { process: 0, slot: 0 },
         Call::FlushAll,
     ]
+}
+
+fn user(store: bool, width: u32, address: u32, value: u32) -> Call {
+    Call::UserAccess { process: 0, store, width, address, value }
+}
+
+/// A list that comes after each call: to the last line of the page that is mapped to the last frame, to its first line, and to
+/// the page after it, which is never mapped.
+fn list() -> List {
+    let calls = [user(true, 2, 4094, 0x0506), user(false, 4, 0, 0), user(false, 4, 4092, 0), user(false, 4, 4096, 0)];
+    List::of(calls.iter().filter_map(|call| Item::of(call, 1)).collect())
 }
 
 pub fn largest() -> Result<(), String> {
@@ -84,6 +96,7 @@ fn board(frames: u64, route: Route) -> Result<usize, String> {
             return Err(format!("{call:?}: a buffer or its surroundings differ"));
         }
         done += usize::from(answer.number == 0);
+        listed(&mut real, &mut model, &manner).map_err(|problem| format!("a list after {call:?}: {problem}"))?;
     }
     for line in [0, frames * LINES_PER_PAGE - 1, frames * LINES_PER_PAGE] {
         let (number, expected) = (routes::look_number(&mut real, line, &manner)?, model.look(line).0);
@@ -92,6 +105,26 @@ fn board(frames: u64, route: Route) -> Result<usize, String> {
         }
     }
     Ok(done)
+}
+
+fn listed(real: &mut Real, model: &mut Board, manner: &Manner) -> Result<(), String> {
+    let list = list();
+    let mut lists = routes::lend(&list, manner.route)?;
+    let mut expected = vec![Answer { number: 0, value: 0, mark: 0 }; list.answers];
+    let own = model.list(&list.words(), &mut expected).0;
+    let answer = routes::list(real, &mut lists, manner)?.answer;
+    if answer != own {
+        return Err(format!("the library gives {answer:?}, the model {own:?}"));
+    }
+    let answers: Vec<Answer> =
+        lists.answers.inner().iter().map(|&packed| routes::told_of(packed, manner.route).answer).collect();
+    if answers != expected {
+        return Err(format!("the library's answers are {answers:?}, the model's {expected:?}"));
+    }
+    if !same(real, model) || !real.broken().is_empty() || lists.broken().is_some() {
+        return Err("a buffer or its surroundings differ".into());
+    }
+    Ok(())
 }
 
 fn same(real: &Real, model: &Board) -> bool {

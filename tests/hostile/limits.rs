@@ -1,5 +1,5 @@
-//! 01's numbers, with P and L by CR 7, and those of CR 2, CR 5 and CR 8, written out again: what the test tries must not move
-//! with a mistake in the model.
+//! 01's numbers, with P and L by CR 7, and those of CR 2, CR 5, CR 8 and CR 12, written out again: what the test tries must not
+//! move with a mistake in the model.
 
 pub const PAGE_BYTES: u64 = 4096;
 pub const LINE_BYTES: u64 = 16;
@@ -54,6 +54,9 @@ pub fn end_of_width(width: u32) -> Option<u64> {
 /// The widths, then some numbers that are none; and the values at the ends of what the widths hold.
 pub const WIDTHS: [u32; 8] = [1, 2, 4, 0, 3, 5, 8, u32::MAX];
 pub const VALUES: [u32; 5] = [0xFF, 0x100, 0xFFFF, 0x1_0000, u32::MAX];
+
+/// An access of a list has five words, by CR 12.
+pub const ACCESS_WORDS: usize = 5;
 
 /// The marks are 0 to 4, by CR 8, and 1 is the mark of a hit.
 pub const MARKS: usize = 5;

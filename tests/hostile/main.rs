@@ -10,6 +10,9 @@ mod gen;
 mod guarded;
 mod largest;
 mod limits;
+mod list_faults;
+mod list_runs;
+mod lists;
 mod marks;
 mod pairs;
 mod places;
@@ -183,8 +186,9 @@ pub fn stepped(
     let mut trace = Trace { start, steps: Vec::with_capacity(length), plant };
     for index in 0..length {
         let step = next(index, &run.model);
+        let given = run.step(&step, coverage);
         trace.steps.push(step);
-        if let Err(difference) = run.step(&step, coverage) {
+        if let Err(difference) = given {
             return Err(Failure::Run(Box::new(trace), difference));
         }
     }
@@ -201,23 +205,25 @@ fn search_and_report(options: &Options) -> Result<(), String> {
         search(&mut rng, options.calls, options.plant, &mut coverage)?;
         let edges = edges::edges(&mut rng, options.plant, &mut coverage)?;
         let values = values::values(&mut rng, options.plant, &mut coverage)?;
-        Ok((edges, values, places::places(&mut rng, options.plant, &mut coverage)?))
+        let places = places::places(&mut rng, options.plant, &mut coverage)?;
+        Ok((edges, values, places, list_runs::lists(&mut rng, options.plant, &mut coverage)?))
     };
-    let (edges, values, places) = match runs() {
+    let (edges, values, places, lists) = match runs() {
         Ok(boards) => boards,
         Err(Failure::Run(trace, difference)) => return Err(report(run::first_difference, *trace, difference)?),
         Err(Failure::Apart(traces, text)) => return Err(report_pair(&traces, &text)?),
     };
     println!("{}", coverage.table());
-    let Coverage { audits, audit_looks, pairs, pairs_hit, pairs_write_back, boards, .. } = coverage;
+    let Coverage { audits, audit_looks, pairs, pairs_hit, pairs_write_back, pairs_list, boards, .. } = coverage;
     println!("{} entries of pages", coverage.entries());
     println!("{} looks by themselves; {audits} audits of a fresh board with {audit_looks} looks", coverage.looks());
     println!("{edges} boards at the limits of P and L and past them, every call on each");
     println!("{values} boards with values at the ends of the widths, beside each number that an access gives");
     println!("{places} boards with lines at the ends of a page's places, beside them and among them");
+    println!("{lists} boards with lists of user accesses");
     println!(
         "{pairs} pairs of runs, equal for process 0 but for marks; {pairs_hit} with a hit in one run only, \
-         {pairs_write_back} with a refill's write-back in one only"
+         {pairs_write_back} with a refill's write-back in one only, {pairs_list} with a list in which the others' differ"
     );
     let problems = coverage.problems();
     if !problems.is_empty() {
@@ -264,6 +270,13 @@ fn given_text(given: &Given) -> String {
     match given {
         Given::Call(Answer { number, value, mark }, event) => {
             format!("number {number}, value {value:#x}, mark {mark}: {event:?}")
+        }
+        Given::List(own, answers) => {
+            let mut text = format!("number {}, value {:#x}, mark {}", own.number, own.value, own.mark);
+            for (index, (Answer { number, value, mark }, event)) in answers.iter().enumerate() {
+                text += &format!("\n    {index}: number {number}, value {value:#x}, mark {mark}: {event:?}");
+            }
+            text
         }
         Given::Look(number) => format!("number {number}"),
         Given::Entry(number, value) => format!("number {number}, value {value:#x}"),

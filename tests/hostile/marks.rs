@@ -9,7 +9,7 @@ use std::fmt;
 
 /// What is marked, with the marks that it may have where it is done: loads and stores, in the order of `Whose`, then the calls
 /// that are no accesses. Page table addresses and those from 2^44 up are always refused.
-pub const MARKED: [(&str, &[u32]); 21] = [
+pub const MARKED: [(&str, &[u32]); 22] = [
     ("user load", &[1, 2, 3]),
     ("user store", &[1, 2, 3]),
     ("supervisor load, ordinary", &[1, 2, 3]),
@@ -31,7 +31,11 @@ pub const MARKED: [(&str, &[u32]); 21] = [
     ("tag", &[0]),
     ("load-and-map", &[0]),
     ("drop tag", &[0]),
+    ("user accesses", &[0]),
 ];
+
+/// The row of a list, whose accesses have marks of their own.
+const LISTS: usize = 21;
 
 const FLUSH_ALL: &str = "flush all";
 
@@ -94,12 +98,20 @@ pub struct Marked {
 
 /// What a call that gave this number and mark was; none if CR 8 has no such mark for it.
 pub fn marked(call: &Call, number: u32, mark: u32) -> Option<Marked> {
+    marked_in(row_of(call), number, mark)
+}
+
+/// The same of a list.
+pub fn list_marked(number: u32, mark: u32) -> Option<Marked> {
+    marked_in(LISTS, number, mark)
+}
+
+fn marked_in(row: usize, number: u32, mark: u32) -> Option<Marked> {
     let outcome = match (number, mark) {
         (0, _) => Outcome::Done(mark),
         (_, 0) => Outcome::Refused,
         _ => return None,
     };
-    let row = row_of(call);
     let index = OUTCOMES.iter().position(|&one| one == outcome)?;
     outcome.can_be(row, false).then_some(Marked { row, outcome: index })
 }

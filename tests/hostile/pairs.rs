@@ -1,11 +1,14 @@
 //! Demand 3 by samples: two runs from one fresh board, with the same supervisor calls and the same accesses by process 0, the
 //! others' accesses changed, added or left out. No segment that process 0 ever holds is ever held for writing by another:
 //! process 0 attaches only the world's first segment, others attach that one read-only. Then process 0 gets the same numbers
-//! and values, and at the end the same bytes stand in the mapped pages of its segment; only its marks may differ.
+//! and values, and at the end the same bytes stand in the mapped pages of its segment; only its marks may differ. Accesses come
+//! by lists too, which are the single calls one after another: those of a list in the first run come in the second by a list,
+//! in which the others' are changed, added or left out, or one by one.
 
 use crate::coverage::Coverage;
 use crate::gen::{self, World};
 use crate::limits::*;
+use crate::lists::{Item, List};
 use crate::rng::Rng;
 use crate::run::{Difference, Given, Run};
 use crate::trace::{Deed, Start, Step, Trace};
@@ -26,29 +29,74 @@ struct Half {
     trace: Trace,
     /// The answers to process 0.
     answers: Vec<Answer>,
+    /// Whether a list of its accesses and others' came otherwise than in the first run.
+    other_list: bool,
 }
 
 impl Half {
     fn new(start: &Start) -> Half {
         let trace = Trace { start: start.clone(), steps: Vec::new(), plant: None };
-        Half { run: Run::new(start, None), trace, answers: Vec::new() }
+        Half { run: Run::new(start, None), trace, answers: Vec::new(), other_list: false }
     }
 
     fn step(&mut self, step: Step, coverage: &mut Coverage) -> Result<(), Failure> {
-        self.trace.steps.push(step);
-        match self.run.step(&step, coverage) {
-            Ok(Given::Call(answer, _)) if is_access(&step, |process| process == 0) => self.answers.push(answer),
-            Ok(_) => {}
-            Err(difference) => return Err(Failure::Run(Box::new(self.trace.clone()), difference)),
+        let given = self.run.step(&step, coverage);
+        match (&step.deed, &given) {
+            (Deed::Call(_), Ok(Given::Call(answer, _))) if is_access(&step, |process| process == 0) => {
+                self.answers.push(*answer)
+            }
+            (Deed::List(list), Ok(Given::List(_, answers))) => {
+                let own = list.items.iter().zip(answers).filter(|(item, _)| item.process == 0);
+                self.answers.extend(own.map(|(_, (answer, _))| *answer));
+            }
+            _ => {}
         }
-        Ok(())
+        self.trace.steps.push(step);
+        match given {
+            Ok(_) => Ok(()),
+            Err(difference) => Err(Failure::Run(Box::new(self.trace.clone()), difference)),
+        }
     }
 
     /// Another access by some process but 0.
-    fn others_access(&mut self, rng: &mut Rng, world: &World, coverage: &mut Coverage) -> Result<(), Failure> {
+    fn other(&self, rng: &mut Rng, world: &World) -> Call {
         let process = 1 + rng.below(self.run.model.shape.processes - 1);
-        let deed = Deed::Call(gen::user_access(rng, world, &self.run.model, process));
+        gen::user_access(rng, world, &self.run.model, process)
+    }
+
+    fn others_access(&mut self, rng: &mut Rng, world: &World, coverage: &mut Coverage) -> Result<(), Failure> {
+        let deed = Deed::Call(self.other(rng, world));
         self.step(Step { deed, manner: gen::manner(rng) }, coverage)
+    }
+
+    /// The same list, the others' accesses changed, added or left out; by a list, or one by one.
+    fn others_list(
+        &mut self,
+        rng: &mut Rng,
+        world: &World,
+        list: &List,
+        coverage: &mut Coverage,
+    ) -> Result<(), Failure> {
+        let mut items = Vec::new();
+        for item in &list.items {
+            if rng.percent(15) {
+                items.extend(Item::of(&self.other(rng, world), 1));
+            }
+            match item.process != 0 {
+                true if rng.percent(40) => {}
+                true if rng.percent(50) => items.extend(Item::of(&self.other(rng, world), 1)),
+                _ => items.push(*item),
+            }
+        }
+        if rng.percent(70) {
+            self.other_list |= items != list.items && items.iter().any(|item| item.process == 0);
+            let list = List { stain: list.stain, offsets: list.offsets, ..List::of(items) };
+            return self.step(Step { deed: Deed::List(list), manner: gen::manner(rng) }, coverage);
+        }
+        for item in items {
+            self.step(Step { deed: Deed::Call(item.call()), manner: gen::manner(rng) }, coverage)?;
+        }
+        Ok(())
     }
 }
 
@@ -78,17 +126,23 @@ pub fn pair(rng: &mut Rng, coverage: &mut Coverage, plant: bool) -> Result<(), F
     let own = world.segments[0];
     let mut first = Half::new(&start);
     for index in 0..STEPS {
-        let call = apart(gen::call(rng, &world, &first.run.model, index < 10), own);
-        first.step(Step { deed: Deed::Call(call), manner: gen::manner(rng) }, coverage)?;
+        let deed = if index >= 10 && rng.percent(10) {
+            Deed::List(gen::fitting_list(rng, &world, &first.run.model))
+        } else {
+            Deed::Call(apart(gen::call(rng, &world, &first.run.model, index < 10), own))
+        };
+        first.step(Step { deed, manner: gen::manner(rng) }, coverage)?;
     }
     let mut second = Half::new(&start);
     for step in first.trace.steps.clone() {
         if rng.percent(15) {
             second.others_access(rng, &world, coverage)?;
         }
-        match is_access(&step, |process| process != 0) {
-            true if rng.percent(40) => {}
-            true if rng.percent(50) => second.others_access(rng, &world, coverage)?,
+        match &step.deed {
+            Deed::List(list) => second.others_list(rng, &world, list, coverage)?,
+            _ if !is_access(&step, |process| process != 0) => second.step(step, coverage)?,
+            _ if rng.percent(40) => {}
+            _ if rng.percent(50) => second.others_access(rng, &world, coverage)?,
             _ => second.step(step, coverage)?,
         }
     }
@@ -98,9 +152,10 @@ pub fn pair(rng: &mut Rng, coverage: &mut Coverage, plant: bool) -> Result<(), F
         }
     }
     let audit = Step { deed: Deed::Audit, manner: gen::manner(rng) };
-    first.step(audit, coverage)?;
+    first.step(audit.clone(), coverage)?;
     second.step(audit, coverage)?;
     coverage.pairs += 1;
+    coverage.pairs_list += u64::from(second.other_list);
     let marks = |half: &Half| half.answers.iter().map(|answer| answer.mark).collect::<Vec<_>>();
     let differ = |differs: fn(u32, u32) -> bool| {
         u64::from(marks(&first).into_iter().zip(marks(&second)).any(|(one, two)| differs(one, two)))

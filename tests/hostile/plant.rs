@@ -2,8 +2,10 @@
 //! plain machine, of those), so that the self-test can show that the check behind it fails.
 
 use crate::cases::{Facts, Line};
-use crate::guarded::{Element, Guarded, Real};
+use crate::guarded::{Element, Guarded, Lists, Real};
 use crate::limits::end_of_width;
+use crate::list_faults::{self, FAULTS};
+use crate::lists::List;
 use crate::routes::{Looked, Told};
 use crate::run::Kind;
 use crate::values::{fitting, Access, Whose};
@@ -42,6 +44,7 @@ pub enum Plant {
     TwoCopies,
     Asks(Asks),
     Marks(Marks),
+    List(list_faults::Wrong),
     Walk(Walk),
     Panic,
     Signal,
@@ -104,11 +107,16 @@ pub enum Marks {
 
 /// All faults, by name.
 pub fn all() -> Vec<(Plant, String)> {
-    let plants = PLANTS.into_iter().map(|(plant, name)| (plant, name.to_string()));
-    plants.chain(walks().map(|(walk, name)| (Plant::Walk(walk), name))).collect()
+    searched().chain(walks().map(|(walk, name)| (Plant::Walk(walk), name))).collect()
 }
 
-/// All but the walks.
+/// All that random runs find: all but the walks.
+pub fn searched() -> impl Iterator<Item = (Plant, String)> {
+    let lists = FAULTS.into_iter().map(|(wrong, name, _)| (Plant::List(wrong), name));
+    PLANTS.into_iter().chain(lists).map(|(plant, name)| (plant, name.to_string()))
+}
+
+/// All but those in lists and in walks.
 pub const PLANTS: [(Plant, &str); 53] = [
     (Plant::Number, "number"),
     (Plant::Value, "value"),
@@ -192,6 +200,7 @@ impl Plant {
             Plant::EntryNumber | Plant::EntryValue => Kind::Entry,
             Plant::PlainNumber | Plant::PlainValue | Plant::PlainMemory => Kind::Plain,
             Plant::TwoCopies => Kind::TwoCopies,
+            Plant::List(wrong) => wrong.found_as(),
             Plant::Panic => Kind::Panic,
             Plant::Signal | Plant::Hang | Plant::ReadsBehind | Plant::ReadsBefore => Kind::Signal,
         }
@@ -244,6 +253,32 @@ impl Plant {
                 std::thread::yield_now();
             },
             _ => {}
+        }
+    }
+
+    /// After a list, before which this was the board: what the library left and told; and the model's answers to its accesses.
+    pub fn after_list(
+        self,
+        list: &List,
+        before: &Board,
+        library: (&mut Real, &mut Lists, &mut Told),
+        expected: &mut [Answer],
+    ) {
+        if let Plant::List(wrong) = self {
+            wrong.after_list(list, before, library, expected);
+        }
+    }
+
+    /// An answer of a list, as a route reads it.
+    pub fn after_answer(self, told: &mut Told) {
+        if let Plant::List(wrong) = self {
+            wrong.after_answer(told);
+        }
+    }
+
+    pub fn after_plain_list(self, answers: &mut [PlainAnswer]) {
+        if let Plant::List(wrong) = self {
+            wrong.after_plain_list(answers);
         }
     }
 

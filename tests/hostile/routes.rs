@@ -1,9 +1,10 @@
 //! The four routes to the library: the raw declarations of the Rust crate; the C header's functions over each number and
-//! buffer, and those over a board (both by through.c); and the safe Rust crate. Each brings one call, or one look, to the
-//! board of `Real`, or asks for the entry of a page, of no board.
+//! buffer, and those over a board (both by through.c); and the safe Rust crate. Each brings one call, one list or one look to
+//! the board of `Real`, or asks for the entry of a page, of no board.
 
-use crate::guarded::Real;
-use crate::limits::{FRAMES_MAX, HIT, LINES_MAX, LINE_BYTES, PROCESSES_MAX};
+use crate::guarded::{Guarded, Lists, Real};
+use crate::limits::{ACCESS_WORDS, FRAMES_MAX, HIT, LINES_MAX, LINE_BYTES, PROCESSES_MAX};
+use crate::lists::{Item, List};
 use model::{Answer, Call, Shape};
 use oaledva::{ffi, Lent, Mark, Refusal};
 
@@ -79,14 +80,19 @@ impl Told {
     /// What disagrees with the answer. Packed, the value has bits 0 to 31, the mark 32 to 39, the number 56 to 63, and those
     /// between are 0.
     pub fn disagrees(&self) -> Option<String> {
-        let Answer { number, value, mark } = self.answer;
+        let mark = self.answer.mark;
         if let Some(hit) = self.hit.filter(|&hit| hit != u32::from(mark == HIT)) {
             return Some(format!("the mark is {mark}, and asked whether it was a hit the library says {hit}"));
         }
-        let right = u64::from(number) << 56 | u64::from(mark) << 32 | u64::from(value);
+        let right = packed(&self.answer);
         let wrong = self.packed.filter(|&packed| packed != right)?;
         Some(format!("the answer packed is {wrong:#x}, and {right:#x} by its number, mark and value"))
     }
+}
+
+/// An answer as one number.
+pub fn packed(answer: &Answer) -> u64 {
+    u64::from(answer.number) << 56 | u64::from(answer.mark) << 32 | u64::from(answer.value)
 }
 
 /// What a look gave: the number where the route tells it, and where the bytes stand, with their length.
@@ -95,7 +101,7 @@ pub struct Looked {
     pub bytes: Option<(*const u8, usize)>,
 }
 
-/// The mirror of `oaledva_board` in include/oaledva.h.
+/// The mirror of `oaledva_board` in include/oaledva.h, its tag as the two words of it.
 #[repr(C)]
 #[derive(Clone, Copy, Debug, PartialEq, Eq)]
 pub struct CBoard {
@@ -113,7 +119,8 @@ pub struct CBoard {
     cache_length: usize,
     memory: *mut u8,
     memory_length: usize,
-    tag: ffi::Pending,
+    set: u32,
+    name: u64,
 }
 
 impl CBoard {
@@ -134,7 +141,8 @@ impl CBoard {
             cache_length: real.cache.len(),
             memory: real.memory.pointer(null),
             memory_length: real.memory.len(),
-            tag: ffi::Pending { set, name },
+            set,
+            name,
         }
     }
 }
@@ -186,16 +194,33 @@ extern "C" {
     fn through_tag(b: *mut CBoard, by_board: bool, line: u64) -> CAnswer;
     fn through_load_and_map(b: *mut CBoard, by_board: bool, line: usize) -> CAnswer;
     fn through_drop_tag(b: *mut CBoard, by_board: bool) -> CAnswer;
+    fn through_user_accesses(
+        b: *mut CBoard,
+        accesses: *const u32,
+        accesses_length: usize,
+        answers: *mut u64,
+        answers_length: usize,
+    ) -> CAnswer;
+    fn through_board_accesses(
+        b: *mut CBoard,
+        accesses: *const ffi::Access,
+        accesses_length: usize,
+        answers: *mut u64,
+        answers_length: usize,
+    ) -> CAnswer;
+    fn through_make_access(access: *mut ffi::Access, process: usize, store: bool, width: u32, address: u32, value: u32);
+    fn through_access_words() -> usize;
+    fn through_unpacked(packed: u64) -> CAnswer;
     fn through_look(b: *mut CBoard, by_board: bool, line: usize) -> *const u8;
     fn through_look_number(b: *mut CBoard, by_board: bool, line: usize) -> u32;
     fn through_entry_of_page(page: u64) -> CEntry;
 }
 
 /// How many of the header's names are compared.
-const CONSTANTS: usize = 22;
+const CONSTANTS: usize = 23;
 
-/// The refusal numbers by the names of the Rust crate, from 1 to 13, and its marks, from 0 to 4; then the limits, by the
-/// documents.
+/// The refusal numbers by the names of the Rust crate, from 1 to 13, and its marks, from 0 to 4; then the limits, and how many
+/// words an access has, by the documents.
 fn constants() -> [usize; CONSTANTS] {
     let refusals = [
         Refusal::Shape,
@@ -213,7 +238,7 @@ fn constants() -> [usize; CONSTANTS] {
         Refusal::OtherLine,
     ];
     let marks = [Mark::NoAccess, Mark::Hit, Mark::Refilled, Mark::WroteBack, Mark::Uncached];
-    let limits = [FRAMES_MAX, PROCESSES_MAX, LINES_MAX, LINE_BYTES];
+    let limits = [FRAMES_MAX, PROCESSES_MAX, LINES_MAX, LINE_BYTES, ACCESS_WORDS as u64];
     let numbers = refusals.map(Refusal::number).into_iter().chain(marks.map(Mark::number)).map(u64::from);
     let mut all = [0; CONSTANTS];
     for (constant, number) in all.iter_mut().zip(numbers.chain(limits)) {
@@ -227,6 +252,13 @@ pub fn header_disagrees() -> Option<String> {
     let (theirs, ours) = (unsafe { through_board_bytes() }, std::mem::size_of::<CBoard>());
     if theirs != ours {
         return Some(format!("oaledva_board has {theirs} bytes, the test's mirror of it {ours}"));
+    }
+    let theirs = unsafe { through_access_words() };
+    if theirs != ACCESS_WORDS || ffi::ACCESS_WORDS != ACCESS_WORDS {
+        return Some(format!(
+            "an access has {theirs} words in C, {} in Rust, {ACCESS_WORDS} by CR 12",
+            ffi::ACCESS_WORDS
+        ));
     }
     let mut theirs = [0; CONSTANTS];
     unsafe { through_constants(&mut theirs) };
@@ -254,6 +286,92 @@ pub fn call(real: &mut Real, call: &Call, manner: &Manner) -> Result<Told, Strin
         Route::Header | Route::Board => caged(real, manner, |board| unsafe { c_call(board, call, manner) }),
         Route::Safe => Ok(safe_call(real, call)),
     }
+}
+
+/// Whether a route can carry a list: two take words, and two take whole accesses.
+pub fn can_carry(route: Route, list: &List) -> bool {
+    list.torn.is_empty() || matches!(route, Route::Raw | Route::Header)
+}
+
+/// A list's buffers, filled as the route has it: words as they are; or accesses, by the header's own functions and the safe
+/// crate's where these can make them. `Err` where these make another.
+pub fn lend(list: &List, route: Route) -> Result<Lists, String> {
+    let words = list.words();
+    let mut accesses = Guarded::holding(&words, list.offsets[0]);
+    if matches!(route, Route::Board | Route::Safe) {
+        let parts = accesses.inner_mut().chunks_exact_mut(ACCESS_WORDS);
+        for (item, part) in list.items.iter().zip(parts).filter(|(item, _)| item.can_be_made()) {
+            // Safety: the part has as many words as an access, and is aligned for words.
+            unsafe { make(item, route, part.as_mut_ptr().cast()) };
+        }
+    }
+    if let Some(at) = (0..words.len()).find(|&at| accesses.inner()[at] != words[at]) {
+        let (index, word, made) = (at / ACCESS_WORDS, at % ACCESS_WORDS, accesses.inner()[at]);
+        return Err(format!("word {word} of access {index} is made as {made:#x}, and should be {:#x}", words[at]));
+    }
+    Ok(Lists { accesses, answers: Guarded::holding(&list.before(), list.offsets[1]) })
+}
+
+unsafe fn make(item: &Item, route: Route, access: *mut ffi::Access) {
+    let Item { process, store, width, address, value } = *item;
+    let process = process as usize;
+    match (route, store != 0) {
+        (Route::Safe, true) => access.write(oaledva::Access::store(process, width, address, value)),
+        (Route::Safe, false) => access.write(oaledva::Access::load(process, width, address)),
+        (_, store) => through_make_access(access, process, store, width, address, value),
+    }
+}
+
+/// Brings a list. `Err` as for a call.
+pub fn list(real: &mut Real, lists: &mut Lists, manner: &Manner) -> Result<Told, String> {
+    let (words, room) = (lists.accesses.len(), lists.answers.len());
+    let (accesses, answers) = (lists.accesses.pointer(manner.null), lists.answers.pointer(manner.null));
+    match manner.route {
+        Route::Raw => {
+            let b = CBoard::of(real, manner.null);
+            // Safety: the buffers are as long as is said, apart from each other and from the board's.
+            let answer =
+                unsafe { raw!(b, oaledva_user_accesses, b.set, b.name, accesses, words, answers.cast(), room) };
+            Ok(Told { answer: answer_of(answer), hit: None, packed: None })
+        }
+        Route::Header => {
+            let call = |board| unsafe { through_user_accesses(board, accesses, words, answers, room) };
+            caged(real, manner, call).map(told_in_c)
+        }
+        Route::Board => {
+            let count = words / ACCESS_WORDS;
+            let call = |board| unsafe { through_board_accesses(board, accesses.cast(), count, answers, room) };
+            caged(real, manner, call).map(told_in_c)
+        }
+        Route::Safe => {
+            let count = words / ACCESS_WORDS;
+            // Safety: as above; these types are words and answers without gaps. The safe route has no NULL.
+            let (accesses, answers) = unsafe {
+                let accesses = lists.accesses.pointer(false).cast::<oaledva::Access>();
+                let answers = lists.answers.pointer(false).cast::<oaledva::Answer>();
+                (std::slice::from_raw_parts(accesses, count), std::slice::from_raw_parts_mut(answers, room))
+            };
+            let mut board = lent(real);
+            let done = board.accesses(accesses, answers).map(|()| 0);
+            Ok(told_safely(done, board.mark(), board.hit()))
+        }
+    }
+}
+
+/// An answer of a list, as the route reads it.
+pub fn told_of(packed: u64, route: Route) -> Told {
+    // Safety: an answer is a number of 64 bits, whichever.
+    let answer = unsafe { std::mem::transmute::<u64, oaledva::Answer>(packed) };
+    let told = match route {
+        Route::Raw => Told { answer: answer_of(answer), hit: None, packed: None },
+        // Safety: it takes a number.
+        Route::Header | Route::Board => told_in_c(unsafe { through_unpacked(packed) }),
+        Route::Safe => {
+            let mark = answer.marked();
+            told_safely(answer.outcome(), mark, mark == Mark::Hit)
+        }
+    };
+    Told { packed: Some(packed), ..told }
 }
 
 pub fn look(real: &mut Real, line: u64, manner: &Manner) -> Result<Looked, String> {
@@ -320,10 +438,10 @@ unsafe fn raw_call(real: &mut Real, call: &Call, manner: &Manner) -> Told {
     let permission = |write| ffi::Permission { write: manner.flag(write) };
     let answer = match *call {
         Call::UserAccess { process, store, width, address, value } => {
-            raw!(b, oaledva_user_access, b.tag, process as usize, kind(store), width, address, value)
+            raw!(b, oaledva_user_access, b.set, b.name, process as usize, kind(store), width, address, value)
         }
         Call::SupervisorAccess { store, width, global, value } => {
-            raw!(b, oaledva_supervisor_access, b.tag, kind(store), width, global, value)
+            raw!(b, oaledva_supervisor_access, b.set, b.name, kind(store), width, global, value)
         }
         Call::Attach { process, slot, segment, write } => {
             raw!(b, oaledva_attach, process as usize, slot as usize, segment, permission(write))
@@ -337,11 +455,18 @@ unsafe fn raw_call(real: &mut Real, call: &Call, manner: &Manner) -> Told {
         Call::LoadAndMap { line } => raw!(b, oaledva_load_and_map, set, name, line as usize),
         Call::DropTag => raw!(b, oaledva_drop_tag, set, name),
     };
-    let answer = Answer { number: answer.number(), mark: answer.mark(), value: answer.value() };
-    Told { answer, hit: None, packed: None }
+    Told { answer: answer_of(answer), hit: None, packed: None }
+}
+
+fn answer_of(answer: ffi::Answer) -> Answer {
+    Answer { number: answer.number(), mark: answer.mark(), value: answer.value() }
 }
 
 // ----- through C -----
+
+fn told_in_c(CAnswer { number, mark, value, hit, packed }: CAnswer) -> Told {
+    Told { answer: Answer { number, mark, value }, hit: Some(hit), packed: Some(packed) }
+}
 
 /// A board for C between canaries.
 #[repr(C)]
@@ -359,7 +484,7 @@ impl Cage {
         if self.front != BARS || self.back != BARS {
             return Err("bytes around the C board were written".into());
         }
-        if (CBoard { tag: before.tag, ..self.board }) != *before {
+        if (CBoard { set: before.set, name: before.name, ..self.board }) != *before {
             return Err("the C board's numbers, pointers or lengths were written".into());
         }
         Ok(())
@@ -371,7 +496,7 @@ fn caged<T>(real: &mut Real, manner: &Manner, call: impl FnOnce(*mut CBoard) -> 
     let before = CBoard::of(real, manner.null);
     let mut cage = Cage { front: BARS, board: before, back: BARS };
     let result = call(&mut cage.board);
-    real.set_tag(cage.board.tag.set, cage.board.tag.name);
+    real.set_tag(cage.board.set, cage.board.name);
     cage.check(&before).map(|()| result)
 }
 
@@ -387,12 +512,12 @@ pub fn cage_shows(real: &mut Real) -> bool {
         && shows(|cage| cage.back[0] ^= 1)
         && shows(|cage| cage.board.lines += 1)
         && shows(|cage| cage.board.memory_length += 1)
-        && !shows(|cage| cage.board.tag.name ^= 1)
+        && !shows(|cage| cage.board.name ^= 1)
 }
 
 unsafe fn c_call(b: *mut CBoard, call: &Call, manner: &Manner) -> Told {
     let by_board = manner.by_board();
-    let CAnswer { number, mark, value, hit, packed } = match *call {
+    told_in_c(match *call {
         Call::UserAccess { process, store, width, address, value } => {
             through_user_access(b, by_board, process as usize, manner.flag(store), width, address, value)
         }
@@ -410,8 +535,7 @@ unsafe fn c_call(b: *mut CBoard, call: &Call, manner: &Manner) -> Told {
         Call::Tag { name } => through_tag(b, by_board, name),
         Call::LoadAndMap { line } => through_load_and_map(b, by_board, line as usize),
         Call::DropTag => through_drop_tag(b, by_board),
-    };
-    Told { answer: Answer { number, mark, value }, hit: Some(hit), packed: Some(packed) }
+    })
 }
 
 // ----- the safe crate -----
@@ -458,10 +582,14 @@ fn safe_call(real: &mut Real, call: &Call) -> Told {
         Call::LoadAndMap { line } => board.load_and_map(line as usize).map(|()| 0),
         Call::DropTag => board.drop_tag().map(|()| 0),
     };
-    let (mark, hit, pending) = (board.mark().number(), u32::from(board.hit()), board.pending());
+    let (mark, hit, pending) = (board.mark(), board.hit(), board.pending());
     if matches!(call, Call::Tag { .. } | Call::LoadAndMap { .. } | Call::DropTag) {
         real.set_tag(u32::from(pending.is_some()), pending.unwrap_or(0));
     }
+    told_safely(done, mark, hit)
+}
+
+fn told_safely(done: Result<u32, Refusal>, mark: Mark, hit: bool) -> Told {
     let (number, value) = done.map_or_else(|refusal| (refusal.number(), 0), |value| (0, value));
-    Told { answer: Answer { number, mark, value }, hit: Some(hit), packed: None }
+    Told { answer: Answer { number, mark: mark.number(), value }, hit: Some(hit.into()), packed: None }
 }

@@ -3,15 +3,16 @@
 use crate::apart;
 use crate::cases::{self, Facts};
 use crate::coverage::{self, Coverage};
-use crate::guarded::{Element, Real};
+use crate::guarded::{Element, Lists, Real};
 use crate::limits::{line_bytes, LINES_PER_PAGE};
+use crate::lists::{List, Tally};
 use crate::marks;
 use crate::plant::Plant;
 use crate::routes::{self, Manner, Route};
 use crate::sights;
 use crate::trace::{Deed, Start, Step, Trace};
 use crate::values;
-use model::{Answer, Board, Call, Event, Plain, Record};
+use model::{Answer, Board, Call, Event, Plain, PlainAnswer, Record};
 use std::fmt::Display;
 use std::panic::{catch_unwind, AssertUnwindSafe};
 
@@ -25,6 +26,8 @@ pub enum Kind {
     Canary,
     Buffer,
     Tag,
+    Accesses,
+    Answers,
     Refused,
     Look,
     Entry,
@@ -64,13 +67,18 @@ fn same_buffer<T: Element>(kind: Kind, what: &str, library: &[T], expected: &[T]
 }
 
 /// What a step gave, for the verbose replay and for pairs of runs.
-#[derive(Clone, Copy, Debug, PartialEq, Eq)]
+#[derive(Clone, Debug, PartialEq, Eq)]
 pub enum Given {
     Call(Answer, Event),
+    /// The list's own answer, then each access's: none where it is refused.
+    List(Answer, Vec<(Answer, Event)>),
     Look(u32),
     Entry(u32, u64),
     Audit,
 }
+
+/// What stands in the model's answers before a list, and after one that is refused: no answer.
+const NO_ANSWER: Answer = Answer { number: 255, value: 0, mark: 0 };
 
 /// A look: its number, and where 01 puts the bytes.
 struct Seen {
@@ -130,6 +138,7 @@ impl Run {
         }
         match step.deed {
             Deed::Call(call) => self.call(&call, &manner, coverage),
+            Deed::List(ref list) => self.list(list, manner, coverage),
             Deed::Look { line } => self.look(line, &manner, coverage),
             Deed::LookNumber { line } => self.look_number(line, &manner, coverage),
             Deed::Entry { page } => self.entry(page, &manner, coverage),
@@ -177,6 +186,96 @@ impl Run {
             coverage.count_value(self.fresh, manner.route, tried);
         }
         Ok(Given::Call(answer, event))
+    }
+
+    // ----- lists -----
+
+    fn list(&mut self, list: &List, mut manner: Manner, coverage: &mut Coverage) -> Result<Given, Difference> {
+        if !routes::can_carry(manner.route, list) {
+            manner.route = if manner.route == Route::Board { Route::Header } else { Route::Raw };
+        }
+        let mut lists = routes::lend(list, manner.route).map_err(|text| differs(Kind::Form, text))?;
+        let mut expected = vec![NO_ANSWER; list.answers];
+        let (own, events) = self.model.list(&list.words(), &mut expected);
+        let (set, _) = self.real.tag();
+        let outcome = routes::list(&mut self.real, &mut lists, &manner);
+        let mut told = outcome.map_err(|text| differs(Kind::Canary, text))?;
+        if let Some(plant) = self.plant {
+            let seen = (&mut self.real, &mut lists, &mut told);
+            plant.after_list(list, &self.kept, seen, &mut expected);
+        }
+        let answer = told.answer;
+        same(Kind::Number, "the list's number", answer.number, own.number, "the model")?;
+        same(Kind::Value, "the list's value", answer.value, own.value, "the model")?;
+        same(Kind::Mark, "the list's mark", answer.mark, own.mark, "the model")?;
+        let marked = marks::list_marked(answer.number, answer.mark);
+        let Some(marked) = marked.filter(|_| coverage::in_table_of_lists(answer.number)) else {
+            return Err(differs(Kind::Table, format!("CR 12 has no such answer of a list: {answer:?}")));
+        };
+        if let Some(text) = told.disagrees() {
+            return Err(differs(Kind::Form, text));
+        }
+        self.same_tag(set)?;
+        let answers = if answer.number == 0 { &expected[..] } else { &[] };
+        self.same_lists(list, &lists, answers, manner.route)?;
+        let tally = Tally::of(list, &manner, &self.kept, &events);
+        self.same_buffers(answer.number != 0)?;
+        self.same_list_as_plain(list, &answer, answers)?;
+        coverage.count_list(self.fresh, manner.route, answer.number, &tally);
+        coverage.count_mark(self.fresh, manner.route, marked);
+        Ok(Given::List(answer, answers.iter().copied().zip(events).collect()))
+    }
+
+    /// A list's own buffers: nothing around them was written, nor the accesses; the answers are these, each as the route reads
+    /// it, too. Where there are none, because the list is refused, what was there before stands there still.
+    fn same_lists(&self, list: &List, lists: &Lists, answers: &[Answer], route: Route) -> Check {
+        if let Some(name) = lists.broken() {
+            return Err(differs(Kind::Canary, format!("bytes around {name} were written")));
+        }
+        same_buffer(Kind::Accesses, "accesses", lists.accesses.inner(), &list.words(), "the list as it was")?;
+        if answers.is_empty() {
+            return same_buffer(Kind::Answers, "answers", lists.answers.inner(), &list.before(), "those before");
+        }
+        for (index, (answer, &packed)) in answers.iter().zip(lists.answers.inner()).enumerate() {
+            let right = routes::packed(answer);
+            if packed != right {
+                let text = format!("answer {index}: {packed:#018x} in the library's, {right:#018x} in the model's");
+                return Err(differs(Kind::Answers, format!("{text}: {answer:?}")));
+            }
+            let call = list.items[index].call();
+            let Answer { number, mark, .. } = *answer;
+            if !coverage::in_table_of_items(number) || marks::marked(&call, number, mark).is_none() {
+                return Err(differs(Kind::Table, format!("01 and CR 8 have no such answer {index}: {answer:?}")));
+            }
+            let mut told = routes::told_of(packed, route);
+            if let Some(plant) = self.plant {
+                plant.after_answer(&mut told);
+            }
+            let disagrees = told.disagrees().filter(|_| told.answer == *answer);
+            if told.answer != *answer || disagrees.is_some() {
+                let text = disagrees.unwrap_or(format!("read as {:?}, and should be {answer:?}", told.answer));
+                return Err(differs(Kind::Form, format!("answer {index}: {text}")));
+            }
+        }
+        Ok(())
+    }
+
+    fn same_list_as_plain(&mut self, list: &List, answer: &Answer, answers: &[Answer]) -> Check {
+        let Some(plain) = &mut self.plain else { return Ok(()) };
+        let mut expected = vec![PlainAnswer { number: NO_ANSWER.number, value: 0 }; list.answers];
+        let own = plain.list(&list.words(), &mut expected);
+        if let Some(plant) = self.plant {
+            plant.after_plain_list(&mut expected);
+        }
+        same(Kind::Plain, "the list's number", answer.number, own.number, "the plain machine")?;
+        same(Kind::Plain, "the list's value", answer.value, own.value, "the plain machine")?;
+        for (index, (answer, expected)) in answers.iter().zip(&expected).enumerate() {
+            let what = format!("answer {index}'s number");
+            same(Kind::Plain, &what, answer.number, expected.number, "the plain machine")?;
+            let what = format!("answer {index}'s value");
+            same(Kind::Plain, &what, answer.value, expected.value, "the plain machine")?;
+        }
+        Ok(())
     }
 
     /// The canaries, and every buffer against the model's. After a refused call nothing may be other than before it,

@@ -4,9 +4,10 @@
 use crate::apart::End;
 use crate::coverage::Coverage;
 use crate::guarded::Real;
+use crate::list_faults::FAULTS;
 use crate::pairs::{self, Failure};
 use crate::places::{Boards, LINES};
-use crate::plant::{Plant, PLANTS};
+use crate::plant::{self, Plant, PLANTS};
 use crate::rng::Rng;
 use crate::routes::{Manner, Route};
 use crate::run::{first_difference, quietly, Difference, Kind};
@@ -14,7 +15,7 @@ use crate::shrink::{self, Fails};
 use crate::sights::{Size, SWEEPS};
 use crate::trace::{self, Trace};
 use crate::walks::{Walk, WRONGS};
-use crate::{apart, edges, routes, search, values};
+use crate::{apart, edges, list_runs, routes, search, values};
 use model::{Board, Shape};
 
 /// Calls within which a planted fault must be found.
@@ -24,7 +25,7 @@ const CALLS: u64 = 100_000;
 const STEPS: usize = 8;
 
 pub fn all() -> Result<(), String> {
-    for (plant, name) in PLANTS.into_iter().filter(|(plant, _)| *plant != Plant::Hang) {
+    for (plant, name) in plant::searched().filter(|(plant, _)| *plant != Plant::Hang) {
         let (found, left) =
             quietly(|| planted(plant)).map_err(|problem| format!("planted fault '{name}': {problem}"))?;
         println!("planted fault {name:18} found at step {found:3} of its run, shrunk to {left} steps, replayed");
@@ -38,6 +39,9 @@ pub fn all() -> Result<(), String> {
     let asks: Vec<Plant> = PLANTS.map(|(plant, _)| plant).into_iter().filter(|p| matches!(p, Plant::Asks(_))).collect();
     planted_in(values::values, &asks)?;
     println!("planted faults in what is asked of values found beside the numbers");
+    let lists = FAULTS.into_iter().filter(|(_, _, kind)| *kind != Kind::Signal);
+    planted_in(list_runs::lists, &lists.map(|(wrong, ..)| Plant::List(wrong)).collect::<Vec<_>>())?;
+    println!("planted faults in lists found in the planned ones");
     planted_walks()?;
     canaries()?;
     println!("each canary, changed, is named");

@@ -1,15 +1,19 @@
-//! Makes a failing trace small: drops steps by halves and then one by one, then simplifies how calls are brought, then zeroes
-//! the first board piece by piece, all while it still fails in the same way.
+//! Makes a failing trace small: drops steps by halves and then one by one, likewise the accesses of its lists, then simplifies
+//! how calls are brought, then zeroes the first board piece by piece, all while it still fails in the same way.
 
+use crate::lists::{Item, List};
 use crate::routes::{Manner, Route};
 use crate::run::{quietly, Difference};
-use crate::trace::Trace;
+use crate::trace::{Deed, Trace};
 use model::{Board, NO_TAG};
 use std::time::Instant;
 
 /// At most so many runs are spent, and not much more than so many seconds.
 const BUDGET: u32 = 3000;
 const SECONDS: u64 = 150;
+
+/// A list is taken apart in so many parts at most, so that a long one doesn't take it all.
+const PARTS: usize = 128;
 
 /// Where a trace first differs, and how.
 pub type Fails = fn(&Trace) -> Option<(usize, Difference)>;
@@ -26,6 +30,7 @@ pub fn shrink(fails: Fails, trace: Trace, difference: Difference) -> (Trace, Dif
     let mut shrinker = Shrinker { fails, best: trace, difference, budget: BUDGET, began: Instant::now() };
     quietly(|| {
         shrinker.drop_steps();
+        shrinker.shorten_lists();
         shrinker.simplify_manners();
         shrinker.zero_board();
         shrinker.drop_steps();
@@ -70,6 +75,60 @@ impl Shrinker {
                 break;
             }
         }
+    }
+
+    /// Drops accesses of lists, with as many answers, by halves and then one by one; then simplifies what is left of them.
+    fn shorten_lists(&mut self) {
+        for index in 0..self.best.steps.len() {
+            let mut size = self.length_at(index);
+            while size > 0 && self.length_at(index) <= PARTS * size {
+                let mut at = 0;
+                while at < self.length_at(index) {
+                    let end = (at + size).min(self.length_at(index));
+                    let shorter = |list: &mut List| {
+                        list.items.drain(at..end);
+                        list.answers = list.answers.saturating_sub(end - at);
+                    };
+                    if !self.takes_list(index, shorter) {
+                        at = end;
+                    }
+                }
+                size /= 2;
+            }
+            let edits: [fn(&mut List); 4] = [
+                |list| list.offsets = [0; 2],
+                |list| list.stain = 0,
+                |list| list.torn.truncate(1),
+                |list| list.torn.iter_mut().for_each(|word| *word = 0),
+            ];
+            for edit in edits {
+                self.takes_list(index, edit);
+            }
+            let edits: [fn(&mut Item); 3] =
+                [|item| item.value = 0, |item| item.store = item.store.min(1), |item| item.width = 1];
+            for (at, edit) in (0..self.length_at(index).min(PARTS)).flat_map(|at| edits.map(|edit| (at, edit))) {
+                self.takes_list(index, |list| edit(&mut list.items[at]));
+            }
+        }
+    }
+
+    fn list_at(&self, index: usize) -> Option<&List> {
+        match &self.best.steps.get(index)?.deed {
+            Deed::List(list) => Some(list),
+            _ => None,
+        }
+    }
+
+    fn length_at(&self, index: usize) -> usize {
+        self.list_at(index).map_or(0, |list| list.items.len())
+    }
+
+    /// Takes the trace with its list edited, if that is another and it fails in the same way.
+    fn takes_list(&mut self, index: usize, edit: impl FnOnce(&mut List)) -> bool {
+        let Some(mut list) = self.list_at(index).cloned() else { return false };
+        edit(&mut list);
+        let changed = self.list_at(index) != Some(&list);
+        changed && self.takes(|trace| trace.steps[index].deed = Deed::List(list))
     }
 
     fn simplify_manners(&mut self) {

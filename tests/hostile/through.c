@@ -24,8 +24,8 @@ void through_lengths(size_t frames, size_t processes, size_t lines, size_t lengt
     lengths[4] = OALEDVA_MEMORY(frames);
 }
 
-/* The refusal numbers by their names, 1 to 13, then the marks, 0 to 4, then the limits. */
-enum { CONSTANTS = 22 };
+/* The refusal numbers by their names, 1 to 13, then the marks, 0 to 4, then the limits, and how many words an access has. */
+enum { CONSTANTS = 23 };
 
 void through_constants(size_t constants[CONSTANTS]) {
     static const size_t all[CONSTANTS] = {
@@ -33,7 +33,7 @@ void through_constants(size_t constants[CONSTANTS]) {
         OALEDVA_SLOT_READ_ONLY, OALEDVA_NOT_MAPPED, OALEDVA_PAGE_READ_ONLY, OALEDVA_FRAME_IN_USE,
         OALEDVA_MAPPED_ALREADY, OALEDVA_OUTSIDE, OALEDVA_OTHER_LINE, OALEDVA_NO_ACCESS, OALEDVA_HIT, OALEDVA_REFILLED,
         OALEDVA_WROTE_BACK, OALEDVA_UNCACHED, OALEDVA_FRAMES_MAX, OALEDVA_PROCESSES_MAX, OALEDVA_LINES_MAX,
-        OALEDVA_LINE_BYTES,
+        OALEDVA_LINE_BYTES, OALEDVA_ACCESS_WORDS,
     };
     for (int i = 0; i < CONSTANTS; i++) constants[i] = all[i];
 }
@@ -59,6 +59,27 @@ through_answer through_user_access(oaledva_board *b, bool by_board, size_t proce
                     : store   ? oaledva_board_store(b, process, width, address, value)
                               : oaledva_board_load(b, process, width, address));
 }
+
+/* A list, by either kind; and an access of one, by the header's own functions. */
+through_answer through_user_accesses(oaledva_board *b, const uint32_t *accesses, size_t accesses_length,
+                                     oaledva_answer *answers, size_t answers_length) {
+    return unpacked(oaledva_user_accesses(OALEDVA_LEND(*b), b->tag, accesses, accesses_length, answers, answers_length));
+}
+
+through_answer through_board_accesses(oaledva_board *b, const oaledva_access *accesses, size_t accesses_length,
+                                      oaledva_answer *answers, size_t answers_length) {
+    return unpacked(oaledva_board_accesses(b, accesses, accesses_length, answers, answers_length));
+}
+
+void through_make_access(oaledva_access *access, size_t process, bool store, uint32_t width, uint32_t address,
+                         uint32_t value) {
+    *access = store ? oaledva_store_access(process, width, address, value) : oaledva_load_access(process, width, address);
+}
+
+size_t through_access_words(void) { return sizeof(oaledva_access) / sizeof(uint32_t); }
+
+/* An answer of a list, taken apart. */
+through_answer through_unpacked(oaledva_answer answer) { return unpacked(answer); }
 
 through_answer through_supervisor_access(oaledva_board *b, bool by_board, uint32_t store, uint32_t width,
                                          uint64_t address, uint32_t value) {

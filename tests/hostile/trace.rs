@@ -1,5 +1,6 @@
 //! A run as data: the board it starts on, then what is done. It is written as lines of text and read back from them.
 
+use crate::lists::{Item, List};
 use crate::plant::{self, Plant};
 use crate::routes::{Manner, ROUTES};
 use model::{Board, Call, Shape};
@@ -14,9 +15,11 @@ pub struct Start {
     pub offsets: [usize; 5],
 }
 
-#[derive(Clone, Copy, Debug, PartialEq, Eq)]
+#[derive(Clone, Debug, PartialEq, Eq)]
 pub enum Deed {
     Call(Call),
+    /// A list of user accesses.
+    List(List),
     Look {
         line: u64,
     },
@@ -31,7 +34,7 @@ pub enum Deed {
     Audit,
 }
 
-#[derive(Clone, Copy, Debug, PartialEq, Eq)]
+#[derive(Clone, Debug, PartialEq, Eq)]
 pub struct Step {
     pub deed: Deed,
     pub manner: Manner,
@@ -46,7 +49,7 @@ pub struct Trace {
 
 // ----- deeds in words -----
 
-/// A deed's name and its arguments, flags as 0 and 1.
+/// A deed's name and its arguments, flags as 0 and 1; those of a list in `list_text`.
 fn parts(deed: &Deed) -> (&'static str, Vec<(&'static str, u64)>) {
     match *deed {
         Deed::Call(Call::UserAccess { process, store, width, address, value }) => (
@@ -76,11 +79,50 @@ fn parts(deed: &Deed) -> (&'static str, Vec<(&'static str, u64)>) {
         Deed::Call(Call::Tag { name }) => ("tag", vec![("name", name)]),
         Deed::Call(Call::LoadAndMap { line }) => ("load-and-map", vec![("line", line)]),
         Deed::Call(Call::DropTag) => ("drop-tag", vec![]),
+        Deed::List(_) => (LIST, vec![]),
         Deed::Look { line } => ("look", vec![("line", line)]),
         Deed::LookNumber { line } => ("look-number", vec![("line", line)]),
         Deed::Entry { page } => ("entry", vec![("page", page)]),
         Deed::Audit => ("audit", vec![]),
     }
+}
+
+const LIST: &str = "user-accesses";
+
+/// A list's arguments. Each access is process, load or store, width, address, value; the words behind the last whole access, if
+/// there are any, are `torn`.
+fn list_text(list: &List) -> String {
+    let List { items, torn, answers, stain, offsets } = list;
+    let numbers = |numbers: &[u64]| numbers.iter().map(|number| format!("{number:#x}")).collect::<Vec<_>>().join(",");
+    let mut text = format!(" answers={answers} stain={stain:#x} at={},{}", offsets[0], offsets[1]);
+    for Item { process, store, width, address, value } in items {
+        let fields = [*process, (*store).into(), (*width).into(), (*address).into(), (*value).into()];
+        write!(text, " access={}", numbers(&fields)).expect("text grows");
+    }
+    if !torn.is_empty() {
+        let words: Vec<u64> = torn.iter().map(|&word| word.into()).collect();
+        write!(text, " torn={}", numbers(&words)).expect("text grows");
+    }
+    text
+}
+
+fn list_of(arguments: &Arguments) -> Result<List, String> {
+    let word = |number: u64| u32::try_from(number).map_err(|_| format!("{number:#x} has more than 32 bits"));
+    let mut list = List::of(Vec::new());
+    list.answers = arguments.number("answers")? as usize;
+    list.stain = arguments.number("stain")?;
+    let at: [u64; 2] = arguments.numbers("at")?[..].try_into().map_err(|_| "'at=' must have two numbers")?;
+    list.offsets = at.map(|offset| offset as usize);
+    for text in arguments.all("access") {
+        let read: [u64; 5] = numbers(text)?.try_into().map_err(|_| format!("'{text}' is no access"))?;
+        let [process, store, width, address, value] = read;
+        let (store, width) = (word(store)?, word(width)?);
+        list.items.push(Item { process, store, width, address: word(address)?, value: word(value)? });
+    }
+    if arguments.all("torn").next().is_some() {
+        list.torn = arguments.numbers("torn")?.into_iter().map(word).collect::<Result<_, _>>()?;
+    }
+    Ok(list)
 }
 
 fn deed_of(name: &str, arguments: &Arguments) -> Result<Deed, String> {
@@ -115,6 +157,7 @@ fn deed_of(name: &str, arguments: &Arguments) -> Result<Deed, String> {
         "tag" => Deed::Call(Call::Tag { name: get("name")? }),
         "load-and-map" => Deed::Call(Call::LoadAndMap { line: get("line")? }),
         "drop-tag" => Deed::Call(Call::DropTag),
+        LIST => Deed::List(list_of(arguments)?),
         "look" => Deed::Look { line: get("line")? },
         "look-number" => Deed::LookNumber { line: get("line")? },
         "entry" => Deed::Entry { page: get("page")? },
@@ -130,6 +173,9 @@ pub fn step_text(step: &Step) -> String {
     let mut text = format!("step {} yes={yes:#x} null={} {name}", name_of(&ROUTES, route), u32::from(null));
     for (key, value) in arguments {
         write!(text, " {key}={value:#x}").expect("text grows");
+    }
+    if let Deed::List(list) = &step.deed {
+        text += &list_text(list);
     }
     text
 }
@@ -199,10 +245,27 @@ impl<'a> Arguments<'a> {
         Arguments(words.iter().filter_map(|word| word.split_once('=')).collect())
     }
 
-    fn number(&self, key: &str) -> Result<u64, String> {
-        let found = self.0.iter().find(|(name, _)| *name == key);
-        number(found.ok_or(format!("'{key}=' is missing"))?.1)
+    /// What stands under a key, as often as it comes.
+    fn all<'b>(&'b self, key: &'b str) -> impl Iterator<Item = &'a str> + 'b {
+        self.0.iter().filter(move |(name, _)| *name == key).map(|(_, text)| *text)
     }
+
+    fn first(&self, key: &str) -> Result<&'a str, String> {
+        self.all(key).next().ok_or(format!("'{key}=' is missing"))
+    }
+
+    fn number(&self, key: &str) -> Result<u64, String> {
+        number(self.first(key)?)
+    }
+
+    fn numbers(&self, key: &str) -> Result<Vec<u64>, String> {
+        numbers(self.first(key)?)
+    }
+}
+
+/// Numbers with commas between them.
+fn numbers(text: &str) -> Result<Vec<u64>, String> {
+    text.split(',').map(number).collect()
 }
 
 pub fn number(text: &str) -> Result<u64, String> {

@@ -29,16 +29,16 @@ pub enum Whose {
 /// An access, and what it is with a value that fits.
 #[derive(Clone, Copy, PartialEq, Eq)]
 pub struct Row {
-    whose: Whose,
-    store: bool,
-    otherwise: Event,
+    pub whose: Whose,
+    pub store: bool,
+    pub otherwise: Event,
 }
 
-const fn store(whose: Whose, otherwise: Event) -> Row {
+pub const fn store(whose: Whose, otherwise: Event) -> Row {
     Row { whose, store: true, otherwise }
 }
 
-const fn load(whose: Whose, otherwise: Event) -> Row {
+pub const fn load(whose: Whose, otherwise: Event) -> Row {
     Row { whose, store: false, otherwise }
 }
 
@@ -182,7 +182,7 @@ pub fn tried(board: &Board, call: &Call, event: Event, number: u32) -> Option<Tr
 
 // ----- the runs -----
 
-const SHAPE: Shape = Shape { frames: 6, uncached: 1, processes: 2, lines: 4 };
+pub const SHAPE: Shape = Shape { frames: 6, uncached: 1, processes: 2, lines: 4 };
 
 /// Pages of one segment: in frame 1, writable; in frame 2, read-only; in none. Frame 3 is free.
 const PAGE: u64 = PAGE_FIRST;
@@ -196,7 +196,7 @@ const SLOT_READ_ONLY: u64 = 1;
 const SLOT_EMPTY: u64 = 2;
 
 /// Calls that bring this about, on any board whose words are out of the way: lines of these pages and frames are dropped, too.
-fn first_calls(row: &Row) -> Vec<Call> {
+pub fn first_calls(row: &Row) -> Vec<Call> {
     let attach = |slot, write| Call::Attach { process: 0, slot, segment: SEGMENT_FIRST, write };
     let mut calls = vec![
         Call::Map { page: PAGE, frame: MAPPED_FRAME, write: true },
@@ -214,7 +214,7 @@ fn first_calls(row: &Row) -> Vec<Call> {
 }
 
 /// The access of a row, to a line of its page or frame.
-fn access(row: &Row, width: u32, value: u32, line: u64) -> Call {
+pub fn access(row: &Row, width: u32, value: u32, line: u64) -> Call {
     let Row { whose, store, otherwise } = *row;
     let page = match otherwise {
         Refused(8) => UNMAPPED,
@@ -248,7 +248,7 @@ fn access(row: &Row, width: u32, value: u32, line: u64) -> Call {
 }
 
 /// Calls after which the row's access is what it is otherwise: its line is held; or not; or another at its place, and changed.
-fn calls_before(row: &Row) -> Vec<Call> {
+pub fn calls_before(row: &Row) -> Vec<Call> {
     match row.otherwise {
         Hit => vec![access(&Row { store: false, ..*row }, 1, 0, 0)],
         Miss => vec![Call::FlushAll],
@@ -269,7 +269,7 @@ fn calls(row: &Row, route: Route, fresh: bool) -> Vec<Call> {
 }
 
 /// A board on which the first calls can be done; for number 1, one of a wrong length.
-fn start(rng: &mut Rng, row: &Row, fresh: bool) -> Start {
+pub fn start(rng: &mut Rng, row: &Row, fresh: bool) -> Start {
     let mut start = if fresh {
         gen::fresh(rng, SHAPE)
     } else {

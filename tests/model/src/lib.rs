@@ -2,7 +2,8 @@
 //! written from those alone. A test oracle: clear and exact, not fast. Quotations are 01's, or a request's where it is named;
 //! "decided" marks a reading.
 //!
-//! * [`Board`]  the machine with its cache. [`Board::step`] also gives the [`Event`] for coverage.
+//! * [`Board`]  the machine with its cache. [`Board::step`] also gives the [`Event`] for coverage; [`Board::list`], which does
+//!   many user accesses, gives one for each.
 //! * [`Plain`]  the machine without a cache.
 //!
 //! Form of each call: first the questions, by rising number (`ask(n, refused_if)?`), none of
@@ -315,6 +316,27 @@ pub enum Call {
     DropTag,
 }
 
+/// A list (CR 12) has so many words of 32 bits for each access, in 01's order: "process, load or store, width, effective
+/// address, value". Of the second, 0 is a load and anything else a store.
+pub const ACCESS_WORDS: usize = 5;
+
+/// The single call that an access of a list is.
+pub fn call_of(words: &[u32; ACCESS_WORDS]) -> Call {
+    let [process, store, width, address, value] = *words;
+    Call::UserAccess { process: process.into(), store: store != 0, width, address, value }
+}
+
+/// The single calls of a list, in its order. Asked only of a list that fits its answers.
+fn calls_of(list: &[u32]) -> impl Iterator<Item = Call> + '_ {
+    list.chunks_exact(ACCESS_WORDS).map(|words| call_of(words.try_into().expect("five words")))
+}
+
+/// "short or long lists and answer buffers that don't match get a number": the contrary. Five words for each answer, no more and
+/// no fewer.
+pub fn list_fits(words: usize, answers: usize) -> bool {
+    words % ACCESS_WORDS == 0 && words / ACCESS_WORDS == answers
+}
+
 /// The marks, by CR 8: "0 refused or not an access, 1 hit, 2 refilled without a write-back, 3 refilled with one in that call, 4
 /// uncached."
 pub mod mark {
@@ -435,6 +457,8 @@ pub trait Machine {
     fn drop_tag(&mut self) -> Self::Answer {
         self.make(Call::DropTag)
     }
+    /// A list of user accesses: words in, answers out.
+    fn user_accesses(&mut self, accesses: &[u32], answers: &mut [Self::Answer]) -> Self::Answer;
 }
 
 impl Machine for Board {
@@ -443,6 +467,10 @@ impl Machine for Board {
     fn make(&mut self, call: Call) -> Answer {
         self.step(&call).0
     }
+
+    fn user_accesses(&mut self, accesses: &[u32], answers: &mut [Answer]) -> Answer {
+        self.list(accesses, answers).0
+    }
 }
 
 impl Machine for Plain {
@@ -450,6 +478,10 @@ impl Machine for Plain {
 
     fn make(&mut self, call: Call) -> PlainAnswer {
         self.step(&call)
+    }
+
+    fn user_accesses(&mut self, accesses: &[u32], answers: &mut [PlainAnswer]) -> PlainAnswer {
+        self.list(accesses, answers)
     }
 }
 
@@ -527,6 +559,25 @@ impl Board {
             Err(number) => (number, 0, Event::Refused(number)),
         };
         (Answer { number, value, mark: event.mark() }, event)
+    }
+
+    /// CR 12: "A call for a whole list of accesses (`user_accesses`: accesses in, answers out, each the answer of the single
+    /// call, refused ones included and the rest done; ... short or long lists and answer buffers that don't match get a number
+    /// and change nothing)". Gives the list's own answer, and what each access did. Decided: the number is 1, and a list gets
+    /// it too, an empty one as well, where a single call would; a list that is done has number, value and mark 0.
+    pub fn list(&mut self, accesses: &[u32], answers: &mut [Answer]) -> (Answer, Vec<Event>) {
+        let own = |number| Answer { number, value: 0, mark: mark::NO_ACCESS };
+        let refusal = ask(1, !self.fits()).and_then(|()| ask(1, !list_fits(accesses.len(), answers.len())));
+        if let Err(number) = refusal {
+            return (own(number), Vec::new());
+        }
+        let mut events = Vec::with_capacity(answers.len());
+        for (call, answer) in calls_of(accesses).zip(answers) {
+            let (given, event) = self.step(&call);
+            *answer = given;
+            events.push(event);
+        }
+        (own(0), events)
     }
 
     /// "Look (physical line): the line's current 16 bytes, in the lowest record holding it, else in
@@ -903,6 +954,18 @@ impl Plain {
             Ok(value) => PlainAnswer { number: 0, value },
             Err(number) => PlainAnswer { number, value: 0 },
         }
+    }
+
+    /// A list (CR 12): here too the single calls one after another.
+    pub fn list(&mut self, accesses: &[u32], answers: &mut [PlainAnswer]) -> PlainAnswer {
+        let refusal = ask(1, !self.fits()).and_then(|()| ask(1, !list_fits(accesses.len(), answers.len())));
+        if let Err(number) = refusal {
+            return PlainAnswer { number, value: 0 };
+        }
+        for (call, answer) in calls_of(accesses).zip(answers) {
+            *answer = self.step(&call);
+        }
+        PlainAnswer { number: 0, value: 0 }
     }
 
     /// "The plain machine gives these bytes of its flat memory."
