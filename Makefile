@@ -1,5 +1,5 @@
 # What a user, an engineer and an auditor run.
-.PHONY: session library install test hostile gate
+.PHONY: session library install test hostile bench gate
 CALLS ?= 10000000
 SEED ?= 1
 PREFIX ?= /usr/local
@@ -9,15 +9,17 @@ session:
 	rt check session
 	@cat target/log/session.stdout
 
-# The static library, proved: target/lib/liboaledva.a. The toolchain writes an archive for each crate that exports; their
-# pieces go into one, each as it is. On another processor than x86-64, AR names an ar for x86-64.
+# The static library, proved: target/lib/liboaledva.a. The toolchain writes an archive for each crate that exports: user access,
+# lists of it, the other calls. Their pieces go into one, each as it is. On another processor than x86-64, AR names an ar for
+# x86-64.
 library:
 	rt staticlib oaledva
 	rt staticlib oaledva_user
+	rt staticlib oaledva_list
 	@mkdir -p target/lib
 	@rm -f target/lib/liboaledva.a
 	@printf '%s\n' 'create target/lib/liboaledva.a' 'addlib target/staticlib/liboaledva.a' \
-	    'addlib target/staticlib/liboaledva_user.a' save end | $(AR) -M
+	    'addlib target/staticlib/liboaledva_user.a' 'addlib target/staticlib/liboaledva_list.a' save end | $(AR) -M
 	@echo 'target/lib/liboaledva.a has every call'
 
 # Header, library and a file for pkg-config, below PREFIX (and that below DESTDIR, if it is set).
@@ -38,6 +40,10 @@ test:
 # A longer hostile run: make hostile CALLS=10000000 SEED=7
 hostile:
 	tests/run hostile --calls $(CALLS) --seed $(SEED)
+
+# A million user accesses by the library and by ordinary Rust, compared and timed: some minutes, on a machine that rests.
+bench: library
+	bench/accesses/run
 
 # The gate: everything from nothing.
 gate:

@@ -1,5 +1,6 @@
 /* A hundred equal calls of one kind on one board, after what they need: F 64, U 1, P 2, L 16, pages from 0x200000 up mapped to frames 1 to
- * 62. tests/counts/run counts the library's instructions. With no argument it writes the kinds; kind `nothing` makes no call at the end. */
+ * 62. What is listed is one call, with a hundred accesses in its list. tests/counts/run counts the library's instructions. With no argument
+ * it writes the kinds; kind `nothing` makes no call at the end. */
 #include "oaledva.h"
 #include <stdio.h>
 #include <string.h>
@@ -17,6 +18,17 @@ static uint64_t user(uint32_t store, uint32_t width, uint32_t address) {
 static uint64_t supervisor(uint32_t store, uint64_t address) {
     oaledva_kind kind = {store};
     return oaledva_supervisor_access(OALEDVA_LEND(b), b.tag, kind, 4, address, 7).packed;
+}
+
+/* Access i of one list, which is called with the last. */
+static uint64_t listed(uint32_t i, uint32_t store, uint32_t address) {
+    static oaledva_access list[CALLS];
+    static oaledva_answer answers[CALLS];
+    const oaledva_access access = {0, {store}, 4, address, 7};
+    list[i] = access;
+    if (i < CALLS - 1) return 0;
+    const uint32_t *words = (const uint32_t *)list;
+    return oaledva_user_accesses(OALEDVA_LEND(b), b.tag, words, OALEDVA_ACCESS_WORDS * CALLS, answers, CALLS).packed;
 }
 
 /* A call by its name, on the board. */
@@ -38,6 +50,9 @@ static uint64_t supervisor(uint32_t store, uint64_t address) {
     KIND("user load, refused by 4", user(0, 4, 2))                                                                 \
     KIND("user load, refused by 6", user(0, 4, 0x400000))                                                          \
     KIND("user load, refused by 8", user(0, 4, 0x3f0000))                                                          \
+    KIND("listed user load, hit, width 4", listed(i, 0, 0))                                                        \
+    KIND("listed user store, hit, width 4", listed(i, 1, 0))                                                       \
+    KIND("listed user load, miss", listed(i, 0, i % 2 * 256))                                                      \
     KIND("supervisor load, hit", supervisor(0, PAGE * 4096))                                                       \
     KIND("supervisor store, hit", supervisor(1, PAGE * 4096))                                                      \
     KIND("supervisor load, miss", supervisor(0, PAGE * 4096 + i % 2 * 256))                                        \

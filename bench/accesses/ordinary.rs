@@ -1,0 +1,327 @@
+//! The ordinary version: user access as an engineer writes it from the scope document, in safe Rust and without proof. It keeps
+//! the board's buffers as they are, and finds a page as the board does, by going through the frame words. Called, inlined and
+//! behind the library's signature it is one body, `Board::access_inlined`.
+
+use crate::board::Buffers;
+use oaledva::ffi::{Access, Kind};
+use oaledva::Shape;
+
+pub const LINE_BYTES: usize = 16;
+pub const PAGE_BYTES: usize = 4096;
+pub const LINES_PER_PAGE: usize = PAGE_BYTES / LINE_BYTES;
+pub const SLOTS: usize = 512;
+pub const SEGMENT_BITS: u32 = 22;
+pub const SEGMENTS: std::ops::RangeInclusive<u32> = 2048..=4_190_207;
+pub const USER_END: u32 = 1 << 31;
+
+/// Why a user access is refused.
+pub mod number {
+    pub const SHAPE: u8 = 1;
+    pub const RANGE: u8 = 2;
+    pub const TAG: u8 = 3;
+    pub const ALIGNMENT: u8 = 4;
+    pub const KERNEL: u8 = 5;
+    pub const SLOT_EMPTY: u8 = 6;
+    pub const SLOT_READ_ONLY: u8 = 7;
+    pub const NOT_MAPPED: u8 = 8;
+    pub const PAGE_READ_ONLY: u8 = 9;
+}
+
+pub mod mark {
+    pub const HIT: u8 = 1;
+    pub const REFILLED: u8 = 2;
+    pub const WROTE_BACK: u8 = 3;
+}
+
+#[derive(Clone, Copy)]
+pub struct Answer {
+    pub number: u8,
+    pub mark: u8,
+    pub value: u32,
+}
+
+impl Answer {
+    /// What stands in the answers before a run.
+    pub const NONE: Answer = Answer { number: u8::MAX, mark: u8::MAX, value: u32::MAX };
+
+    pub fn done(mark: u8, value: u32) -> Answer {
+        Answer { number: 0, mark, value }
+    }
+
+    pub fn refused(number: u8) -> Answer {
+        Answer { number, mark: 0, value: 0 }
+    }
+
+    /// The same, as the library packs it.
+    pub fn packed(self) -> u64 {
+        u64::from(self.number) << 56 | u64::from(self.mark) << 32 | u64::from(self.value)
+    }
+}
+
+/// Whether a store's value fits its width. Of a number that is no width it is not asked.
+pub fn fits(value: u32, width: u32) -> bool {
+    match width {
+        1 => value <= u8::MAX.into(),
+        2 => value <= u16::MAX.into(),
+        _ => true,
+    }
+}
+
+/// Whether an access may have this width and stand at this address.
+pub fn aligned(address: u32, width: u32) -> bool {
+    matches!(width, 1 | 2 | 4) && address & (width - 1) == 0
+}
+
+pub type Line = [u8; LINE_BYTES];
+
+/// Numbers stand with the most significant byte first.
+#[inline(always)]
+pub fn load(line: &Line, at: usize, width: u32) -> u32 {
+    match width {
+        1 => line[at].into(),
+        2 => u16::from_be_bytes(line[at..at + 2].try_into().expect("two bytes")).into(),
+        _ => u32::from_be_bytes(line[at..at + 4].try_into().expect("four bytes")),
+    }
+}
+
+#[inline(always)]
+pub fn store(line: &mut Line, at: usize, width: u32, value: u32) {
+    match width {
+        1 => line[at] = value as u8,
+        2 => line[at..at + 2].copy_from_slice(&(value as u16).to_be_bytes()),
+        _ => line[at..at + 4].copy_from_slice(&value.to_be_bytes()),
+    }
+}
+
+/// A record in its two words: the name; physical line × 8 + changed × 4 + write × 2 + valid.
+#[derive(Clone, Copy)]
+#[repr(C)]
+pub struct Record {
+    name: u64,
+    rest: u64,
+}
+
+const VALID: u64 = 1;
+const WRITE: u64 = 2;
+const CHANGED: u64 = 4;
+const PHYSICAL: u64 = 8;
+
+impl Record {
+    fn new(name: u64, physical: usize, write: bool) -> Record {
+        Record { name, rest: physical as u64 * PHYSICAL + if write { WRITE | VALID } else { VALID } }
+    }
+
+    fn has(&self, bit: u64) -> bool {
+        self.rest & bit != 0
+    }
+
+    fn physical(&self) -> usize {
+        (self.rest / PHYSICAL) as usize
+    }
+}
+
+/// The frame to which a page is mapped, counted from the first of these words, and its write bit. Never inlined: the compiler
+/// would put the arithmetic on the frame into the loop, which is slower.
+#[inline(never)]
+fn mapping(words: &[u64], page: u64) -> Option<(usize, bool)> {
+    let frame = words.iter().position(|&word| word & !WRITE == page * 4 + VALID)?;
+    Some((frame, words[frame] & WRITE != 0))
+}
+
+/// A board over buffers that agree with its shape.
+pub struct Board<'a> {
+    pub shape: Shape,
+    pub slots: &'a [u32],
+    pub words: &'a [u64],
+    pub records: &'a mut [Record],
+    pub cache: &'a mut [Line],
+    pub memory: &'a mut [Line],
+    pub pending: Option<u64>,
+}
+
+impl Board<'_> {
+    #[inline(never)]
+    fn access(&mut self, access: &Access) -> Answer {
+        self.access_inlined(access)
+    }
+
+    /// A user's load or store.
+    #[inline(always)]
+    pub fn access_inlined(&mut self, access: &Access) -> Answer {
+        self.tried(access).unwrap_or_else(Answer::refused)
+    }
+
+    #[inline(always)]
+    fn tried(&mut self, access: &Access) -> Result<Answer, u8> {
+        let &Access { process, kind, width, address, value } = access;
+        let (process, is_store) = (process as usize, kind != Kind::LOAD);
+        if process >= self.shape.processes || is_store && !fits(value, width) {
+            return Err(number::RANGE);
+        }
+        if self.pending.is_some() {
+            return Err(number::TAG);
+        }
+        if !aligned(address, width) {
+            return Err(number::ALIGNMENT);
+        }
+        if address >= USER_END {
+            return Err(number::KERNEL);
+        }
+        let slot = self.slots[process * SLOTS + (address >> SEGMENT_BITS) as usize];
+        let (segment, writable) = (slot / 2, slot % 2 == 1);
+        if !SEGMENTS.contains(&segment) {
+            return Err(number::SLOT_EMPTY);
+        }
+        if is_store && !writable {
+            return Err(number::SLOT_READ_ONLY);
+        }
+        let offset = address % (1 << SEGMENT_BITS);
+        let name = (u64::from(segment) << SEGMENT_BITS | u64::from(offset)) / LINE_BYTES as u64;
+        let place = self.place_of(name);
+        let mark = match self.held(place) {
+            Some(record) if record.name == name => {
+                if is_store && !record.has(WRITE) {
+                    return Err(number::PAGE_READ_ONLY);
+                }
+                mark::HIT
+            }
+            old => self.refill(name, place, old, is_store)?,
+        };
+        let at = address as usize % LINE_BYTES;
+        if is_store {
+            store(&mut self.cache[place], at, width, value);
+            self.records[place].rest |= CHANGED;
+            Ok(Answer::done(mark, 0))
+        } else {
+            Ok(Answer::done(mark, load(&self.cache[place], at, width)))
+        }
+    }
+
+    #[inline(always)]
+    fn place_of(&self, name: u64) -> usize {
+        name as usize & (self.shape.lines - 1)
+    }
+
+    /// The record at a place, if it holds a line: it is valid, stands at its place, and its physical line is inside memory.
+    #[inline(always)]
+    fn held(&self, place: usize) -> Option<Record> {
+        let record = self.records[place];
+        let holds = record.has(VALID) && self.place_of(record.name) == place && record.physical() < self.memory.len();
+        holds.then_some(record)
+    }
+
+    /// Fills a place with the line of this name, after the old line there was written back if it was changed. Gives the mark.
+    #[inline(always)]
+    fn refill(&mut self, name: u64, place: usize, old: Option<Record>, is_store: bool) -> Result<u8, u8> {
+        let words = &self.words[self.shape.uncached..];
+        let (frame, write) = mapping(words, name / LINES_PER_PAGE as u64).ok_or(number::NOT_MAPPED)?;
+        if is_store && !write {
+            return Err(number::PAGE_READ_ONLY);
+        }
+        let changed = old.filter(|old| old.has(CHANGED));
+        if let Some(old) = changed {
+            self.memory[old.physical()] = self.cache[place];
+        }
+        let physical = (self.shape.uncached + frame) * LINES_PER_PAGE + name as usize % LINES_PER_PAGE;
+        self.cache[place] = self.memory[physical];
+        self.records[place] = Record::new(name, physical, write);
+        Ok(if changed.is_some() { mark::WROTE_BACK } else { mark::REFILLED })
+    }
+}
+
+/// How long the five buffers are, in the elements of the library's signature.
+pub struct Lengths {
+    pub slots: usize,
+    pub words: usize,
+    pub records: usize,
+    pub cache: usize,
+    pub memory: usize,
+}
+
+/// Whether the shape keeps its limits and the lengths agree with it.
+pub fn agree(shape: Shape, lengths: &Lengths) -> bool {
+    (1..=Shape::FRAMES_MAX).contains(&shape.frames)
+        && shape.uncached <= shape.frames
+        && (1..=Shape::PROCESSES_MAX).contains(&shape.processes)
+        && shape.lines <= Shape::LINES_MAX
+        && shape.lines.is_power_of_two()
+        && lengths.slots == SLOTS * shape.processes
+        && lengths.words == shape.frames
+        && lengths.records == 2 * shape.lines
+        && lengths.cache == LINE_BYTES * shape.lines
+        && lengths.memory == PAGE_BYTES * shape.frames
+}
+
+/// The owner of a board's buffers. That they agree is asked once, when it is made.
+pub struct Scan {
+    shape: Shape,
+    slots: Vec<u32>,
+    words: Vec<u64>,
+    records: Vec<Record>,
+    cache: Vec<Line>,
+    memory: Vec<Line>,
+    pending: Option<u64>,
+}
+
+impl Scan {
+    pub fn new(board: &Buffers) -> Scan {
+        assert!(agree(board.shape, &board.lengths()), "the board's buffers don't agree with its shape");
+        let record = |words: &[u64]| Record { name: words[0], rest: words[1] };
+        Scan {
+            shape: board.shape,
+            slots: board.slots.clone(),
+            words: board.words.clone(),
+            records: board.records.chunks_exact(2).map(record).collect(),
+            cache: lines(&board.cache),
+            memory: lines(&board.memory),
+            pending: board.pending,
+        }
+    }
+
+    pub fn into_buffers(self) -> Buffers {
+        Buffers {
+            shape: self.shape,
+            slots: self.slots,
+            words: self.words,
+            records: self.records.iter().flat_map(|record| [record.name, record.rest]).collect(),
+            cache: self.cache.concat(),
+            memory: self.memory.concat(),
+            pending: self.pending,
+        }
+    }
+
+    fn lent(&mut self) -> Board<'_> {
+        Board {
+            shape: self.shape,
+            slots: &self.slots,
+            words: &self.words,
+            records: &mut self.records,
+            cache: &mut self.cache,
+            memory: &mut self.memory,
+            pending: self.pending,
+        }
+    }
+}
+
+/// Bytes as lines.
+pub fn lines(bytes: &[u8]) -> Vec<Line> {
+    bytes.chunks_exact(LINE_BYTES).map(|line| line.try_into().expect("sixteen bytes")).collect()
+}
+
+/// A call for each access.
+#[inline(never)]
+pub fn called(board: &mut Scan, accesses: &[Access], answers: &mut [Answer]) {
+    let mut board = board.lent();
+    for (access, answer) in accesses.iter().zip(answers) {
+        *answer = board.access(access);
+    }
+}
+
+/// The body inside the loop.
+#[inline(never)]
+pub fn inlined(board: &mut Scan, accesses: &[Access], answers: &mut [Answer]) {
+    let mut board = board.lent();
+    for (access, answer) in accesses.iter().zip(answers) {
+        *answer = board.access_inlined(access);
+    }
+}

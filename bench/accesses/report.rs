@@ -1,0 +1,147 @@
+//! What the benchmark prints.
+
+use crate::measure::{Spread, Times};
+use crate::patterns::{Case, Kinds, Pattern, ATTACHED_BY_EACH, PATTERNS, SEGMENTS, SHAPE, WARMING};
+use crate::versions::{Outcome, OURS, SCANS, VERSIONS};
+use oaledva::ffi::Kind;
+use oaledva::Shape;
+use std::collections::HashMap;
+
+/// Instructions for one access, by pattern and version.
+pub type Counts = HashMap<(String, String), f64>;
+
+/// Lines of a pattern, a version, and the program's instructions with so many accesses and with twice as many.
+pub fn counts(text: &str, accesses: usize) -> Result<Counts, String> {
+    let count = |line: &str| {
+        let words: Vec<_> = line.split_whitespace().collect();
+        let [pattern, version, once, twice] = words[..] else { return None };
+        let [once, twice]: [f64; 2] = [once.parse().ok()?, twice.parse().ok()?];
+        Some(((pattern.into(), version.into()), (twice - once) / accesses as f64))
+    };
+    text.lines().map(|line| count(line).ok_or(format!("no count of instructions: {line}"))).collect()
+}
+
+/// The share of answers with a mark, in percent.
+fn marked(answers: &[u64], mark: u64) -> f64 {
+    percent(answers.iter().filter(|&&answer| answer >> 32 == mark).count(), answers.len())
+}
+
+fn percent(part: usize, whole: usize) -> f64 {
+    100.0 * part as f64 / whole as f64
+}
+
+/// What a pattern's accesses are, and how they went.
+pub fn measured(pattern: &Pattern, case: &Case, outcome: &Outcome) -> String {
+    let done = outcome.answers.iter().filter(|&&answer| answer >> 56 == 0).count();
+    let stores = case.accesses.iter().filter(|access| access.kind != Kind::LOAD).count();
+    let [hits, wrote_back] = [1, 3].map(|mark| marked(&outcome.answers, mark));
+    let kinds = match pattern.kinds {
+        Kinds::Mixed => format!("1, 2 and 4 bytes, {:.1}% stores", percent(stores, case.accesses.len())),
+        Kinds::Loads => "4-byte loads".into(),
+    };
+    format!(
+        "{:8}  {hits:5.2}% hits, {wrote_back:5.2}% write-backs; {kinds}; {done} of {} done",
+        pattern.name,
+        case.accesses.len()
+    )
+}
+
+/// The hits in the part that is counted.
+pub fn counted_hits(outcome: &Outcome) -> String {
+    let counted = &outcome.answers[outcome.answers.len() / 2..];
+    format!("          instructions: of {} accesses with {:5.2}% hits", counted.len(), marked(counted, 1))
+}
+
+/// A pattern's table: a line for each version. Where the times say nothing, the counts alone.
+pub fn table(pattern: &Pattern, times: Option<&Times>, accesses: usize, counts: &Counts) {
+    let count = |version: &str| {
+        let count = counts.get(&(pattern.name.into(), version.into()));
+        count.map_or("-".into(), |count| format!("{count:.1}"))
+    };
+    if let Some(times) = times {
+        println!("{} {:>6} {:>13}", row("", heads()), "ns", "instructions");
+        for (at, version) in VERSIONS.iter().enumerate() {
+            let ratios = SCANS.map(|scan| spread_text(times.ratio(at, scan)));
+            let (each, count) = (times.nanoseconds(at, accesses), count(version.name));
+            println!("{} {each:6.1} {count:>13}", row(version.words, ratios));
+        }
+    } else if !counts.is_empty() {
+        println!("  {:22} {:>12}", "", "instructions");
+        VERSIONS.iter().for_each(|version| println!("  {:22} {:>12}", version.words, count(version.name)));
+    }
+}
+
+fn row(first: &str, [called, inlined, signature]: [String; SCANS.len()]) -> String {
+    format!("  {first:21}  {called:22}  {inlined:22}  {signature:22}")
+}
+
+fn heads() -> [String; SCANS.len()] {
+    SCANS.map(|scan| format!("to {}", VERSIONS[scan].words))
+}
+
+fn spread_text(Spread { low, median, high }: Spread) -> String {
+    format!("{median:.2} ({low:.2} to {high:.2})")
+}
+
+/// The worst of each of ours.
+pub fn worst(all: &[Times]) {
+    println!("\nOurs at its slowest: the largest of the {} patterns' medians.", PATTERNS.len());
+    println!("{}", row("", heads()).trim_end());
+    for (at, version) in VERSIONS[..OURS].iter().enumerate() {
+        println!("{}", row(version.words, SCANS.map(|scan| worst_of(all, at, scan))).trim_end());
+    }
+}
+
+fn worst_of(all: &[Times], version: usize, to: usize) -> String {
+    let medians = PATTERNS.iter().zip(all).map(|(pattern, times)| (times.ratio(version, to).median, pattern.name));
+    let (median, name) = medians.max_by(|one, other| one.0.total_cmp(&other.0)).expect("there are patterns");
+    format!("{median:.2} ({name})")
+}
+
+pub struct Method<'a> {
+    pub accesses: usize,
+    pub counted: usize,
+    pub rounds: usize,
+    pub processor: &'a str,
+    pub emulated: bool,
+}
+
+impl Method<'_> {
+    pub fn print(&self) {
+        let &Method { accesses, counted, rounds, processor, emulated } = self;
+        let Shape { frames, uncached, processes, lines } = SHAPE;
+        let (mapped, segments, twice) = (frames - uncached, SEGMENTS.len(), 2 * counted);
+        let (rustc, plays) = (env!("ACCESSES_RUSTC"), if emulated { "emulated" } else { "not emulated" });
+        println!(
+            "
+Method
+- Board: {frames} frames of 4096 bytes, of which {uncached} uncached; {processes} processes; {lines} lines. The other
+  {mapped} frames have pages of {segments} segments, in no order. Each process holds {ATTACHED_BY_EACH} segments, one of
+  them read-only. {WARMING} accesses came before, so that the cache is warm.
+- Every version reads the same {accesses} accesses, five words each, and writes an answer for each, from a fresh copy
+  of the same board; all in one process.
+- ours: the proved library, compiled by its kit's clang at -O3 for any x86-64. A call is a call, of which nothing is
+  inlined, and asks shape and lengths. A call for each access passes 21 words.
+- scan: ordinary safe Rust that goes through the frame words as the board does. It asks the shape once, when it is
+  made. Called: a function that is lent an access. Inlined: its body in the loop. Our signature: the same body behind
+  the library's 21 words, asking shape and lengths at each call. In all three the search among the frame words is a
+  function by itself, because inlined it was slower.
+- index: ordinary safe Rust, written freely: an index from pages to frames (a hash map), a line's record and bytes in
+  one place.
+- The ordinary versions are compiled by {rustc}, opt-level 3, one codegen unit, for any x86-64.
+- After every run all answers and all five buffers are compared with those of the called scan.
+- Instructions: valgrind's callgrind counts the whole program with {twice} accesses and with {counted}; the difference,
+  for one access, with the loop that brings it. They don't move with the machine's load; - is not counted."
+        );
+        if emulated {
+            println!("- No times are told: they would be the emulator's.");
+        } else {
+            println!(
+                "- Times: a round to warm up, then {rounds} rounds, in each of which every version runs once; each begins with
+  another version. The loop alone is timed. A ratio is of two times of the same round; told are the median and, in
+  brackets, the quartiles. The nanoseconds for one access are of this one run, and move with the machine's load."
+            );
+        }
+        println!("- Processor: {processor}, {plays}.");
+    }
+}
