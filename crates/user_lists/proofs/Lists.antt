@@ -6,21 +6,21 @@ use mathlib.Core.List.{List, [], _∷_, _++_, append-assoc, append-nil, map-appe
 use native.Mathlib.Omega.{arith}
 use native.Mathlib.Numerals.{add-one}
 use lib.Dec.{eqb}
-use lib.ListN.{length, take, set, length-map}
+use lib.ListN.{length, getD, take, set, length-map}
 use lib.Seq.{take-all, take-suc-set}
 use borrow.Author.Tests.{eqb-true, eqb-false, eq-eqb, ne-eqb}
-use Rattle.address.specs.declared.Effective.{Effective}
 use Rattle.board.specs.Answers.{answer}
 use Rattle.board.specs.Shapes.{fitsShape}
 use Rattle.board.specs.declared.Answer.{Answer}
 use Rattle.board.specs.declared.Pending.{Pending}
 use Rattle.board.specs.declared.Shape.{Shape}
-use Rattle.stores.specs.declared.Access.{Access}
 use Rattle.machine.specs.Boards.{Board, board, Outcome, outcome}
 use Rattle.machine.specs.Refusals.{byTable}
 use Rattle.machine.specs.Accesses.{userAccess}
-use Rattle.machine.specs.Lists.{askAt, asksFrom, Answered, answered, accessOn, answerFirst, oneByOne, listed, listDone, userAccesses}
+use Rattle.machine.specs.Lists.{Asked, accessWords, askAt, asksFrom, Answered, answered, accessOn, answerFirst, oneByOne, listed, listDone, userAccesses}
 use Rattle.crossing.specs.Packing.{unpacked, unpackedAll}
+use Rattle.user_lists.specs.Asks.{askOf}
+use Rattle.user_lists.specs.declared.Ask.{Ask}
 
 -- five words for each answer, by quotient and remainder
 pub agree : (accesses answers : ℕ) → (eqb (accesses / 5) answers && eqb (accesses % 5) 0) ≡ eqb accesses (5 * answers)
@@ -31,10 +31,15 @@ agree accesses answers = go (eqb (accesses / 5) answers) (eqb (accesses % 5) 0) 
     go true false e f = sym (ne-eqb accesses (5 * answers) (λ h. eqb-false (accesses % 5) 0 f (omega (arith, h))))
     go false r e f = sym (ne-eqb accesses (5 * answers) (λ h. eqb-false (accesses / 5) answers e (omega (arith, h))))
 
--- an access of a list crosses as a user access does; its process is the list's word
-pub one-crosses : (s : Shape) (b b₁ : Board) (process first : ℕ) (a : Access) (e : Effective) (x : Answer) (r : ℕ) → process ≡ first
-    → outcome x b₁ ≡ userAccess s b process a e → unpacked r ≡ x → outcome (unpacked r) b₁ ≡ userAccess s b first a e
-one-crosses s b b₁ process first a e x r p h f = rw (f, ← p) h
+-- the access that the words of a list say, its process widened
+pub ask-is : (accesses : List ℕ) (i process : ℕ) → process ≡ getD accesses (accessWords * i) 0
+    → askOf (record { process = process; access = askAt accesses i .access; address = askAt accesses i .address }) ≡ askAt accesses i
+ask-is accesses i process e = rw e
+
+-- it crosses as a user access does
+pub one-crosses : (s : Shape) (b b₁ : Board) (k : Ask) (asked : Asked) (x : Answer) (r : ℕ) → askOf k ≡ asked
+    → outcome x b₁ ≡ userAccess s b (k .process) (k .access) (k .address) → unpacked r ≡ x → outcome (unpacked r) b₁ ≡ accessOn s b asked
+one-crosses s b b₁ k asked x r e h f = rw f (h ∙ ap (accessOn s b) e)
 
 -- lengths that stay fit again
 pub kept-fit : (s : Shape) (slots words r c m r₁ c₁ m₁ : List ℕ) → length r₁ ≡ length r → length c₁ ≡ length c → length m₁ ≡ length m

@@ -9,6 +9,7 @@ ghost use Rattle.machine.specs.Boards.{outcome};
 ghost use Rattle.machine.specs.Lists.{accessWords, askAt, asksFrom, answered, accessOn, oneByOne};
 ghost use Rattle.machine.specs.Contracts.{before, after, UserAccesses};
 ghost use Rattle.crossing.specs.Packing.{unpacked, unpackedAll};
+ghost use Rattle.user_lists.specs.Asks.{askOf};
 use address::Effective;
 use board::Answer;
 use board::Pending;
@@ -23,6 +24,32 @@ fn wide(x: u32) -> usize
     ensures { λ r. ⌜ r ≡ x ⌝ }
 {
     x as usize
+}
+
+// An access of a list.
+struct Ask {
+    process: usize,
+    access: Access,
+    address: Effective,
+}
+
+// Access `i` of a list, by its five words.
+fn ask_at(accesses: &[u32], i: usize) -> Ask
+    requires { ⌜ accessWords * i + accessWords ≤ length (now accesses) ⌝ }
+    ensures { λ r. ⌜ askOf r ≡ askAt (now (accesses .entry)) i ⌝ }
+{
+    let at = ACCESS_WORDS * i;
+    let process = wide(accesses[at]);
+    let access = Access {
+        store: accesses[at + 1] != 0,
+        width: accesses[at + 2],
+        value: accesses[at + 4],
+    };
+    Ask {
+        process: process,
+        access: access,
+        address: Effective(accesses[at + 3]),
+    }
 }
 
 // Does access `i` of a list and gives its answer.
@@ -40,14 +67,9 @@ fn one_access(
     requires { ⌜ (fitsShape s (length (now slots)) (length (now words)) (length (now records)) (length (now cache)) (length (now memory)) ≡ true) × (accessWords * i + accessWords ≤ length (now accesses)) ⌝ }
     ensures { λ r. ⌜ outcome (unpacked r) (after slots words records cache memory tag) ≡ accessOn s (before slots words records cache memory tag) (askAt (now (accesses .entry)) i) ⌝ }
 {
-    let at = ACCESS_WORDS * i;
-    let process = wide(accesses[at]);
-    let a = Access {
-        store: accesses[at + 1] != 0,
-        width: accesses[at + 2],
-        value: accesses[at + 4],
-    };
-    let e = Effective(accesses[at + 3]);
+    let k = ask_at(accesses, i);
+    let a = k.access;
+    let e = k.address;
     let x = user_access::fitting_access(
         s,
         slots,
@@ -56,7 +78,7 @@ fn one_access(
         cache,
         memory,
         tag,
-        process,
+        k.process,
         a,
         e,
     );

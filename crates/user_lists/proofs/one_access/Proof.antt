@@ -1,4 +1,4 @@
--- `one_access` is `fitting_access` of the list's words, packed.
+-- `one_access` is `fitting_access` of what the list's words say, packed.
 use Rattle.crossing.proofs.Fitting.{user-small}
 use Rattle.user_lists.proofs.Lists.{one-crosses}
 use borrow.Author.Needs.{needs}
@@ -8,8 +8,7 @@ use Rattle.user_lists.proofs.one_access.Tie as tie
 pub one-access-spec : {M : Type 1} → statement M
 one-access-spec =
     tie.close (tie.spec
-    (search needs) (search needs) (search needs) (search needs) (search needs) (search needs) (search needs) (search needs)
-    (search needs) (search needs) (search needs) (search needs) (search needs) (search needs) (search needs) (search needs)
+    (search needs)
     (λ c κs. search needs)
     (λ c κs. search (needs, user-small))
     (search needs) (search needs) (search needs)
