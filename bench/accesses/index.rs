@@ -4,8 +4,7 @@
 
 use crate::board::Buffers;
 use crate::ordinary::{
-    agree, aligned, fits, lines, load, mark, number, store, Answer, LINES_PER_PAGE, LINE_BYTES, SEGMENTS, SEGMENT_BITS,
-    SLOTS, USER_END,
+    agree, line_name, lines, load, mark, number, slot_index, store, Answer, LINES_PER_PAGE, LINE_BYTES, SEGMENTS,
 };
 use oaledva::ffi::{Access, Kind};
 use oaledva::Shape;
@@ -105,27 +104,14 @@ impl Index {
 
     #[inline(always)]
     fn tried(&mut self, access: &Access) -> Result<Answer, u8> {
-        let &Access { process, kind, width, address, value } = access;
-        let (process, is_store) = (process as usize, kind != Kind::LOAD);
-        if process >= self.shape.processes || is_store && !fits(value, width) {
-            return Err(number::RANGE);
-        }
-        if self.pending.is_some() {
-            return Err(number::TAG);
-        }
-        if !aligned(address, width) {
-            return Err(number::ALIGNMENT);
-        }
-        if address >= USER_END {
-            return Err(number::KERNEL);
-        }
-        let slot = self.slots[process * SLOTS + (address >> SEGMENT_BITS) as usize];
+        let &Access { kind, width, address, value, .. } = access;
+        let is_store = kind != Kind::LOAD;
+        let slot = self.slots[slot_index(access, self.shape.processes, self.pending)?];
         let attached = slot.ok_or(number::SLOT_EMPTY)?;
         if is_store && !attached.write {
             return Err(number::SLOT_READ_ONLY);
         }
-        let offset = address % (1 << SEGMENT_BITS);
-        let name = (u64::from(attached.segment) << SEGMENT_BITS | u64::from(offset)) / LINE_BYTES as u64;
+        let name = line_name(attached.segment, address);
         let line = &mut self.lines[name as usize & (self.shape.lines - 1)];
         let mark = if line.valid && line.name == name {
             mark::HIT

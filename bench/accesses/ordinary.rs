@@ -72,6 +72,33 @@ pub fn aligned(address: u32, width: u32) -> bool {
     matches!(width, 1 | 2 | 4) && address & (width - 1) == 0
 }
 
+/// Where the slot's word of an access stands among all processes' words, or the first of numbers 2 to 5 that refuses it.
+#[inline(always)]
+pub fn slot_index(access: &Access, processes: usize, pending: Option<u64>) -> Result<usize, u8> {
+    let &Access { process, kind, width, address, value } = access;
+    let process = process as usize;
+    if process >= processes || kind != Kind::LOAD && !fits(value, width) {
+        return Err(number::RANGE);
+    }
+    if pending.is_some() {
+        return Err(number::TAG);
+    }
+    if !aligned(address, width) {
+        return Err(number::ALIGNMENT);
+    }
+    if address >= USER_END {
+        return Err(number::KERNEL);
+    }
+    Ok(process * SLOTS + (address >> SEGMENT_BITS) as usize)
+}
+
+/// The name of the line that an address lies in, by the segment that is attached to its slot.
+#[inline(always)]
+pub fn line_name(segment: u32, address: u32) -> u64 {
+    let offset = address % (1 << SEGMENT_BITS);
+    (u64::from(segment) << SEGMENT_BITS | u64::from(offset)) / LINE_BYTES as u64
+}
+
 pub type Line = [u8; LINE_BYTES];
 
 /// Numbers stand with the most significant byte first.
@@ -153,21 +180,9 @@ impl Board<'_> {
 
     #[inline(always)]
     fn tried(&mut self, access: &Access) -> Result<Answer, u8> {
-        let &Access { process, kind, width, address, value } = access;
-        let (process, is_store) = (process as usize, kind != Kind::LOAD);
-        if process >= self.shape.processes || is_store && !fits(value, width) {
-            return Err(number::RANGE);
-        }
-        if self.pending.is_some() {
-            return Err(number::TAG);
-        }
-        if !aligned(address, width) {
-            return Err(number::ALIGNMENT);
-        }
-        if address >= USER_END {
-            return Err(number::KERNEL);
-        }
-        let slot = self.slots[process * SLOTS + (address >> SEGMENT_BITS) as usize];
+        let &Access { kind, width, address, value, .. } = access;
+        let is_store = kind != Kind::LOAD;
+        let slot = self.slots[slot_index(access, self.shape.processes, self.pending)?];
         let (segment, writable) = (slot / 2, slot % 2 == 1);
         if !SEGMENTS.contains(&segment) {
             return Err(number::SLOT_EMPTY);
@@ -175,8 +190,7 @@ impl Board<'_> {
         if is_store && !writable {
             return Err(number::SLOT_READ_ONLY);
         }
-        let offset = address % (1 << SEGMENT_BITS);
-        let name = (u64::from(segment) << SEGMENT_BITS | u64::from(offset)) / LINE_BYTES as u64;
+        let name = line_name(segment, address);
         let place = self.place_of(name);
         let mark = match self.held(place) {
             Some(record) if record.name == name => {
