@@ -14,7 +14,7 @@ use Rattle.board.specs.Answers.{answer, markUncached, markOf}
 use Rattle.board.specs.declared.Answer.{Answer}
 use Rattle.board.specs.declared.Shape.{Shape}
 use Rattle.board.specs.Lists.{bit}
-use Rattle.board.proofs.Bools.{and-left, and-right}
+use Rattle.board.proofs.Tables.{everyBelow, every-below}
 use Rattle.line_bytes.specs.Bytes.{number, stored}
 use Rattle.line_bytes.specs.Premises.{Width}
 use Rattle.stores.specs.Premises.{Sized}
@@ -29,7 +29,7 @@ use Rattle.machine.specs.Refusals.{row, byTable, isWidth, tooLarge, alignedTo}
 use Rattle.machine.specs.Accesses.{Reached, reached, stopped, reachedBy, performedOn, accessedBy, accessed, memoryAccess}
 use Rattle.line_access.specs.LineAccess.{lineAccess}
 use lib.Dec.{eqb, leb}
-use borrow.Author.Tests.{eqb-true, eqb-false, ne-eqb}
+use borrow.Author.Tests.{eqb-true, ne-eqb}
 
 -- a width that may be is 1, 2 or 4, and the other way round
 is-width : (w : ℕ) → Width w → isWidth w ≡ true
@@ -95,19 +95,6 @@ module _ (at : ℕ) where
   aligned-none width h = rw (ne-eqb width 1 (λ e. omega arith), ne-eqb width 2 (λ e. omega arith), ne-eqb width 4 (λ e. omega arith))
 
 -- the table's bits, checked one by one
-everyBelow : ℕ → (ℕ → Bool) → Bool
-everyBelow zero f = true
-everyBelow (suc n) f = f n && everyBelow n f
-
-every-below : (n : ℕ) (f : ℕ → Bool) → everyBelow n f ≡ true → (k : ℕ) → k < n → f k ≡ true
-unfolding everyBelow
-every-below zero f e k h = absurd (omega arith)
-every-below (suc n) f e k h = go (every-below n f (and-right (f n) _ e) k) (eqb k n) refl
-  where
-    go : (k < n → f k ≡ true) → (t : Bool) → eqb k n ≡ t → f k ≡ true
-    go below true q = let z : k ≡ n = eqb-true _ _ q in rw z (and-left (f n) _ e)
-    go below false q = let z : k ≡ n → ⊥ = eqb-false k n q in below (omega (arith, z))
-
 tableRight : ℕ → ℕ → Bool
 tableRight width rest = eqb (67056 / 2 ^ (4 * width + rest) % 2) (bit (alignedTo width rest))
 
