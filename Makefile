@@ -1,5 +1,5 @@
 # What a user, an engineer and an auditor run.
-.PHONY: session library install test hostile bench gate
+.PHONY: session replay library install test hostile bench gate
 CALLS ?= 10000000
 SEED ?= 1
 PREFIX ?= /usr/local
@@ -9,17 +9,24 @@ session:
 	rt check session
 	@cat target/log/session.stdout
 
+# The program that replays a log: target/bin/replay.
+replay:
+	rt check replay
+	@echo 'target/bin/replay LOG'
+
 # The static library, proved: target/lib/liboaledva.a. The toolchain writes an archive for each crate that exports: user access,
-# lists of it, the other calls. Their pieces go into one, each as it is. On another processor than x86-64, AR names an ar for
+# lists of it, logs, the other calls. Their pieces go into one, each as it is. On another processor than x86-64, AR names an ar for
 # x86-64.
 library:
 	rt staticlib oaledva
 	rt staticlib oaledva_user
 	rt staticlib oaledva_list
+	rt staticlib oaledva_log
 	@mkdir -p target/lib
 	@rm -f target/lib/liboaledva.a
 	@printf '%s\n' 'create target/lib/liboaledva.a' 'addlib target/staticlib/liboaledva.a' \
-	    'addlib target/staticlib/liboaledva_user.a' 'addlib target/staticlib/liboaledva_list.a' save end | $(AR) -M
+	    'addlib target/staticlib/liboaledva_user.a' 'addlib target/staticlib/liboaledva_list.a' \
+	    'addlib target/staticlib/liboaledva_log.a' save end | $(AR) -M
 	@echo 'target/lib/liboaledva.a has every call'
 
 # Header, library and a file for pkg-config, below PREFIX (and that below DESTDIR, if it is set).
@@ -41,9 +48,11 @@ test:
 hostile:
 	tests/run hostile --calls $(CALLS) --seed $(SEED)
 
-# A million user accesses by the library and by ordinary Rust, compared and timed: some minutes, on a machine that rests.
+# A million user accesses by the library and by ordinary Rust, compared and timed; then logs of as many, read and replayed: some
+# minutes, on a machine that rests.
 bench: library
 	bench/accesses/run
+	bench/logs/run
 
 # The gate: everything from nothing.
 gate:
