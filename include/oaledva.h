@@ -5,13 +5,15 @@
  *
  * Most programs keep their board in an oaledva_board and use the functions oaledva_board_... at the end of this file. The
  * functions before those take each number and each buffer by itself, for programs that hold the buffers elsewhere; what a
- * call does, and by which numbers it is refused, is said there. One call takes no board: oaledva_entry_of_page.
+ * call does, and by which numbers it is refused, is said there. One call takes no board: oaledva_entry_of_page. Last come logs
+ * of calls, written and read in pieces, which take no board either.
  *
  * What is proved of each call, for whatever numbers and buffer lengths the caller brings: on the language's own machine it
  * ends, it takes no step outside the buffers that it is lent, and the answer, the buffers and the tag after it are those that
  * the call's definition in crates/machine/specs gives of the buffers and the tag before it. A shape or a length that does not
  * agree is no fault of the caller's: the call answers number 1 and changes nothing. (oaledva_entry_of_page has no buffers,
- * and its definition is in crates/address/specs.)
+ * and its definition is in crates/address/specs. The four functions of logs are proved likewise; their definitions are in the
+ * specs of crates/log_numbers, log_entries, log_reader and log_writer.)
  *
  * What the proof rests on, and no proof checks:
  *   - each pointer points to as many elements as the length after it says, readable, and writable where the prototype has
@@ -21,11 +23,12 @@
  *     array of them is;
  *   - aliasing: what a call may write (a pointer without const) overlaps nothing else that is passed to it, and no other
  *     thread writes what a call reads, or touches what it writes, until it returns. Pointers with const may overlap. So the
- *     answers of a list stand apart from its accesses and from the board. Calls on different boards may run at the same time;
+ *     answers of a list stand apart from its accesses and from the board, and a reader's state and entries from its piece.
+ *     Calls on different boards may run at the same time, and so may different readers;
  *   - the types of their own below (oaledva_answer and the like) are passed and returned as the numbers in them: one number
  *     as that number is, the two of oaledva_pending one after the other on the stack, because the six arguments that go in
- *     registers come before it. An array of oaledva_answer is one of uint64_t, and one of oaledva_access of uint32_t. So it is
- *     on x86-64 Linux, in C and in C++;
+ *     registers come before it. An array of oaledva_answer or oaledva_log_entry is one of uint64_t, and one of oaledva_access
+ *     of uint32_t. So it is on x86-64 Linux, in C and in C++;
  *   - the stack has room (see above), and the compiler, the linker and the processor do as they should.
  *
  * What is promised of a run of calls from a fresh board (docs/PROMISES.md: the answers of a machine without a cache, and one
@@ -631,6 +634,326 @@ OALEDVA_MUST_USE static inline const uint8_t *oaledva_board_look(const oaledva_b
 
 OALEDVA_MUST_USE static inline oaledva_looked oaledva_board_look_number(const oaledva_board *b, size_t physical_line) {
     return oaledva_look_number(OALEDVA_LEND(*b), physical_line);
+}
+
+/* ==== logs of calls
+ * A log holds the four numbers of a board, and then calls that were made on it, one after another. A recorder writes one while
+ * it runs. It has no answers: whoever makes the same calls again, on a fresh board of these numbers whose memory is zeros, gets
+ * the same again. So begin a log with the board, and store into memory by logged calls what it has to hold. Look is not logged,
+ * and a list is logged access by access.
+ * To write: make a call's entry, oaledva_store_call(0, 4, 0, 50); oaledva_log_encode gives its bytes, oaledva_board_perform
+ * makes the call. To read: oaledva_log_reader_take, piece by piece, and oaledva_board_perform. examples/record.c and
+ * examples/replay.c are whole programs.
+ *
+ * In bytes a log is a run of numbers, in groups of seven bits, the low group first; each group is a byte, with the top bit set
+ * on all but the last. A number takes one byte to ten, and there is one way to write it. The log opens with the header, the
+ * four numbers. Then comes for each call the number of its kind and its fields, as many as the kind has.
+ *
+ * Kinds, and their fields. A load is 0 and a store 1; read-only is 0 and writable 1; widths, values and effective addresses are
+ * below 2^32, and a load's value is 0. Any other field is any number of 64 bits. */
+enum {
+    OALEDVA_LOG_HEADER = 0,            /* frames, uncached frames, processes, lines: the first entry, and no later one. In a log
+                                          it is these four alone; no call has the number 0 */
+    OALEDVA_LOG_USER_ACCESS = 1,       /* process, load or store, width, effective address, value */
+    OALEDVA_LOG_SUPERVISOR_ACCESS = 2, /* load or store, width, global address, value */
+    OALEDVA_LOG_ATTACH = 3,            /* process, slot, segment, write bit */
+    OALEDVA_LOG_DETACH = 4,            /* process, slot */
+    OALEDVA_LOG_MAP = 5,               /* page, frame, write bit */
+    OALEDVA_LOG_UNMAP = 6,             /* page */
+    OALEDVA_LOG_PROTECT = 7,           /* page, write bit */
+    OALEDVA_LOG_FLUSH_ALL = 8,         /* none */
+    OALEDVA_LOG_TAG = 9,               /* line name */
+    OALEDVA_LOG_LOAD_AND_MAP = 10,     /* physical line */
+    OALEDVA_LOG_DROP_TAG = 11          /* none */
+};
+
+/* Why a log was refused, or an entry that was to be written; 0 for neither. A log is refused for the first thing that is wrong in
+   it; of an entry the lowest that applies is given. */
+enum {
+    OALEDVA_LOG_MISFIT = 1,       /* the buffers do not fit the call, or the state is no reader's: no fault of the log */
+    OALEDVA_LOG_PADDED = 2,       /* a number's last group is 0 after others */
+    OALEDVA_LOG_TENTH_BYTE = 3,   /* a number's tenth byte is above 1 */
+    OALEDVA_LOG_CUT = 4,          /* the log ends inside a number or a call, or before its header is whole */
+    OALEDVA_LOG_UNKNOWN_KIND = 5, /* a kind that is none of these */
+    OALEDVA_LOG_TOO_LARGE = 6     /* a field that is too large */
+};
+
+/* Such a reason in words. */
+OALEDVA_MUST_USE static inline const char *oaledva_log_words(uint64_t reason) {
+    switch (reason) {
+    case OALEDVA_LOG_MISFIT: return "the buffers do not fit the call";
+    case OALEDVA_LOG_PADDED: return "a number's last group is 0 after others";
+    case OALEDVA_LOG_TENTH_BYTE: return "a number's tenth byte is above 1";
+    case OALEDVA_LOG_CUT: return "the log is cut";
+    case OALEDVA_LOG_UNKNOWN_KIND: return "a kind that is not known";
+    case OALEDVA_LOG_TOO_LARGE: return "a field that is too large";
+    }
+    return "";
+}
+
+/* What a log holds, header or call, as six numbers: its kind, then its fields; those that the kind does not have are 0. */
+typedef struct oaledva_log_entry {
+    uint64_t kind;
+    uint64_t fields[5];
+} oaledva_log_entry;
+
+#define OALEDVA_LOG_ENTRY_WORDS 6
+OALEDVA_ASSERT(oaledva_log_entry_layout, sizeof(oaledva_log_entry) == OALEDVA_LOG_ENTRY_WORDS * sizeof(uint64_t),
+               "oaledva_log_entry must be six words without gaps");
+
+/* ---- the four functions of the library, each buffer by itself
+ * Takes bytes of a piece until there is no more room for an entry, the piece is used up or the log is refused. `state` has
+ * OALEDVA_LOG_STATE_WORDS words: those of OALEDVA_LOG_READER for a log's first piece, then what the call before left. A piece
+ * is any part of the log that follows the one before; it may be empty. `entries` has OALEDVA_LOG_ENTRY_WORDS words for each
+ * entry. The entries that became whole are written from its start, the header first, and their number is returned; the words
+ * behind them stay. state[0] is how many bytes of the log were taken so far, so that what it grew by is taken of this piece:
+ * all of it, or as far as the last byte of the entry that filled the room, or as far as the byte at which the log is refused.
+ * Once it is refused nothing more is taken.
+ * Where the buffers do not fit OALEDVA_LOG_NOTHING is returned and nothing changes: the state has not so many words, or they
+ * are no reader's; the entries have no multiple of so many; the log would reach 2^64 bytes. */
+OALEDVA_MUST_USE uint64_t oaledva_log_read(
+    uint64_t *state, size_t state_length,
+    const uint8_t *piece, size_t piece_length,
+    uint64_t *entries, size_t entries_length);
+
+#define OALEDVA_LOG_STATE_WORDS 11
+#define OALEDVA_LOG_NOTHING UINT64_MAX
+
+/* Why the log was refused, or 0. With `ended` not 0 the log has no more bytes: it is refused if it is cut, too. */
+OALEDVA_MUST_USE uint64_t oaledva_log_reason(const uint64_t *state, size_t state_length, uint32_t ended);
+
+/* Where: the place, in bytes from the log's start, of the first byte of the number that is wrong. Where the log was not
+ * refused, how many bytes were taken, which is the place of a cut. 0 if the state is no reader's. */
+OALEDVA_MUST_USE uint64_t oaledva_log_place(const uint64_t *state, size_t state_length);
+
+/* What writing an entry gives: how many bytes it is, or reason * 2^32 + the field that is too large. It is no length: a refused
+ * entry's is far beyond its buffer. */
+typedef struct OALEDVA_MUST_USE_TYPE oaledva_log_written {
+    uint64_t packed;
+} oaledva_log_written;
+
+#define OALEDVA_LOG_REASON_AT 32
+
+/* Writes an entry of OALEDVA_LOG_ENTRY_WORDS words to the start of a buffer of OALEDVA_LOG_ENTRY_BYTES bytes or more; the bytes
+ * behind it stay. Nothing is written of an entry that is refused: by 5, its kind is above 11; by 6, a field is too large, of
+ * which the first is told, counted from 1 (one that the kind does not have is too large unless it is 0). By 1: the lengths. */
+OALEDVA_MUST_USE oaledva_log_written oaledva_log_write(
+    const uint64_t *entry, size_t entry_length,
+    uint8_t *bytes, size_t bytes_length);
+
+#define OALEDVA_LOG_ENTRY_BYTES 60
+
+/* Why the entry was refused; 0 where it was written. */
+OALEDVA_MUST_USE static inline uint32_t oaledva_log_written_reason(oaledva_log_written written) {
+    return (uint32_t)(written.packed >> OALEDVA_LOG_REASON_AT);
+}
+/* How many bytes were written; 0 where the entry was refused. */
+OALEDVA_MUST_USE static inline size_t oaledva_log_written_bytes(oaledva_log_written written) {
+    return oaledva_log_written_reason(written) == 0 ? (size_t)written.packed : 0;
+}
+/* The field that is too large, counted from 1; 0 where none is. */
+OALEDVA_MUST_USE static inline uint32_t oaledva_log_written_field(oaledva_log_written written) {
+    return oaledva_log_written_reason(written) == 0 ? 0 : (uint32_t)written.packed;
+}
+
+/* ---- writing: entries, and their bytes
+ * The header. */
+OALEDVA_MUST_USE static inline oaledva_log_entry oaledva_log_header(
+    size_t frames, size_t uncached, size_t processes, size_t lines) {
+    const oaledva_log_entry entry = {OALEDVA_LOG_HEADER, {frames, uncached, processes, lines, 0}};
+    return entry;
+}
+
+/* A call, by the arguments that the function over a board of that name takes after the board. Nothing is done yet. The entry
+ * has them as the call gets them, so that a call which is refused for them is refused likewise when it is made again. */
+OALEDVA_MUST_USE static inline oaledva_log_entry oaledva_load_call(size_t process, uint32_t width, uint64_t address) {
+    const oaledva_log_entry call = {OALEDVA_LOG_USER_ACCESS, {process, 0, width, oaledva_effective(address), 0}};
+    return call;
+}
+
+OALEDVA_MUST_USE static inline oaledva_log_entry oaledva_store_call(
+    size_t process, uint32_t width, uint64_t address, uint32_t value) {
+    const oaledva_log_entry call = {OALEDVA_LOG_USER_ACCESS, {process, 1, width, oaledva_effective(address), value}};
+    return call;
+}
+
+/* An access of a list. A load with a value, which oaledva_load_access never makes, keeps it, and then no log can hold it. */
+OALEDVA_MUST_USE static inline oaledva_log_entry oaledva_access_call(oaledva_access access) {
+    const oaledva_log_entry call = {
+        OALEDVA_LOG_USER_ACCESS, {access.process, access.kind.store != 0, access.width, access.address, access.value}};
+    return call;
+}
+
+OALEDVA_MUST_USE static inline oaledva_log_entry oaledva_supervisor_load_call(uint32_t width, uint64_t address) {
+    const oaledva_log_entry call = {OALEDVA_LOG_SUPERVISOR_ACCESS, {0, width, address, 0, 0}};
+    return call;
+}
+
+OALEDVA_MUST_USE static inline oaledva_log_entry oaledva_supervisor_store_call(
+    uint32_t width, uint64_t address, uint32_t value) {
+    const oaledva_log_entry call = {OALEDVA_LOG_SUPERVISOR_ACCESS, {1, width, address, value, 0}};
+    return call;
+}
+
+OALEDVA_MUST_USE static inline oaledva_log_entry oaledva_attach_call(
+    size_t process, size_t slot, uint64_t segment, oaledva_permission permission) {
+    const oaledva_log_entry call = {OALEDVA_LOG_ATTACH, {process, slot, segment, permission.write != 0, 0}};
+    return call;
+}
+
+OALEDVA_MUST_USE static inline oaledva_log_entry oaledva_detach_call(size_t process, size_t slot) {
+    const oaledva_log_entry call = {OALEDVA_LOG_DETACH, {process, slot, 0, 0, 0}};
+    return call;
+}
+
+OALEDVA_MUST_USE static inline oaledva_log_entry oaledva_map_call(
+    uint64_t page, size_t frame, oaledva_permission permission) {
+    const oaledva_log_entry call = {OALEDVA_LOG_MAP, {page, frame, permission.write != 0, 0, 0}};
+    return call;
+}
+
+OALEDVA_MUST_USE static inline oaledva_log_entry oaledva_unmap_call(uint64_t page) {
+    const oaledva_log_entry call = {OALEDVA_LOG_UNMAP, {page, 0, 0, 0, 0}};
+    return call;
+}
+
+OALEDVA_MUST_USE static inline oaledva_log_entry oaledva_protect_call(uint64_t page, oaledva_permission permission) {
+    const oaledva_log_entry call = {OALEDVA_LOG_PROTECT, {page, permission.write != 0, 0, 0, 0}};
+    return call;
+}
+
+OALEDVA_MUST_USE static inline oaledva_log_entry oaledva_flush_all_call(void) {
+    const oaledva_log_entry call = {OALEDVA_LOG_FLUSH_ALL, {0, 0, 0, 0, 0}};
+    return call;
+}
+
+OALEDVA_MUST_USE static inline oaledva_log_entry oaledva_tag_call(uint64_t line_name) {
+    const oaledva_log_entry call = {OALEDVA_LOG_TAG, {line_name, 0, 0, 0, 0}};
+    return call;
+}
+
+OALEDVA_MUST_USE static inline oaledva_log_entry oaledva_load_and_map_call(size_t physical_line) {
+    const oaledva_log_entry call = {OALEDVA_LOG_LOAD_AND_MAP, {physical_line, 0, 0, 0, 0}};
+    return call;
+}
+
+OALEDVA_MUST_USE static inline oaledva_log_entry oaledva_drop_tag_call(void) {
+    const oaledva_log_entry call = {OALEDVA_LOG_DROP_TAG, {0, 0, 0, 0, 0}};
+    return call;
+}
+
+/* An entry's bytes, from the start of `bytes`, to be written behind those of the entries before it. Where no log can hold the
+ * entry `length` is 0, so that nothing of it is written; `reason` says why, and `field` which field is too large, counted from
+ * 1 (0 where it is the kind). The entries that the functions above make have bytes, but for a list's load with a value. */
+typedef struct OALEDVA_MUST_USE_TYPE oaledva_log_bytes {
+    uint8_t bytes[OALEDVA_LOG_ENTRY_BYTES];
+    uint32_t reason, field;
+    size_t length;
+} oaledva_log_bytes;
+
+OALEDVA_MUST_USE static inline oaledva_log_bytes oaledva_log_encode(oaledva_log_entry entry) {
+    oaledva_log_bytes encoded;
+    /* An entry is six of uint64_t without gaps, so it is read as the words it consists of. */
+    const oaledva_log_written written =
+        oaledva_log_write((const uint64_t *)&entry, OALEDVA_LOG_ENTRY_WORDS, encoded.bytes, OALEDVA_LOG_ENTRY_BYTES);
+    encoded.reason = oaledva_log_written_reason(written);
+    encoded.field = oaledva_log_written_field(written);
+    encoded.length = oaledva_log_written_bytes(written);
+    return encoded;
+}
+
+/* ---- reading: a reader, and pieces of a log
+ * A reader begins with OALEDVA_LOG_READER, or with zeros; its words are the library's. */
+typedef struct oaledva_log_reader {
+    uint64_t state[OALEDVA_LOG_STATE_WORDS];
+} oaledva_log_reader;
+
+#define OALEDVA_LOG_READER {{0, 0, 0, 1, 0, 0, 0, 0, 0, 0, 0}}
+
+/* The bytes of a log that are at hand: its next piece, cut anywhere. */
+typedef struct oaledva_log_piece {
+    const uint8_t *bytes;
+    size_t length;
+} oaledva_log_piece;
+
+/* One that has taken nothing is at a log's start, also where it was made of zeros. */
+static inline oaledva_log_reader oaledva_log_reader_begun(const oaledva_log_reader *reader) {
+    const oaledva_log_reader fresh = OALEDVA_LOG_READER;
+    return reader->state[0] == 0 ? fresh : *reader;
+}
+
+/* Takes what it can of a piece, and gives how many entries became whole: at most entries_length, which counts entries. The
+ * first of a log is its header. `piece` is then what is left of it. Where this gives 0, and there was room, the piece has no
+ * more to give: the log goes on in the next one, or it is refused. */
+OALEDVA_MUST_USE static inline size_t oaledva_log_reader_take(
+    oaledva_log_reader *reader, oaledva_log_piece *piece, oaledva_log_entry *entries, size_t entries_length) {
+    /* No list is so long that its words can't be counted. Such a length is refused: one word is no multiple of six. */
+    const size_t words =
+        entries_length <= SIZE_MAX / OALEDVA_LOG_ENTRY_WORDS ? OALEDVA_LOG_ENTRY_WORDS * entries_length : 1;
+    const uint64_t before = reader->state[0];
+    uint64_t given;
+    if (before == 0) *reader = oaledva_log_reader_begun(reader);
+    given = oaledva_log_read(reader->state, OALEDVA_LOG_STATE_WORDS, piece->bytes, piece->length, (uint64_t *)entries, words);
+    if (reader->state[0] != before) {
+        piece->bytes += reader->state[0] - before;
+        piece->length -= reader->state[0] - before;
+    }
+    return given == OALEDVA_LOG_NOTHING ? 0 : given;
+}
+
+/* Why the log is refused, or 0. Then this reader takes nothing more. */
+OALEDVA_MUST_USE static inline uint64_t oaledva_log_reader_reason(const oaledva_log_reader *reader) {
+    return oaledva_log_reason(reader->state, OALEDVA_LOG_STATE_WORDS, 0);
+}
+
+/* The same where the log has ended here: it may be cut. 0 says that it is a log, from its first byte to its last. */
+OALEDVA_MUST_USE static inline uint64_t oaledva_log_reader_end(const oaledva_log_reader *reader) {
+    const oaledva_log_reader begun = oaledva_log_reader_begun(reader);
+    return oaledva_log_reason(begun.state, OALEDVA_LOG_STATE_WORDS, 1);
+}
+
+/* Where it is refused, in bytes from its start; else how many bytes were taken. */
+OALEDVA_MUST_USE static inline uint64_t oaledva_log_reader_place(const oaledva_log_reader *reader) {
+    return oaledva_log_place(reader->state, OALEDVA_LOG_STATE_WORDS);
+}
+
+/* ---- making a call of a log, on a board of its header's numbers: does what the function over a board of that name does. An
+ * entry that no reader gives as a call is refused by 1, and nothing is done: the header, a kind that is none, a field that is
+ * too large. (Fields that a kind does not have are not asked.) */
+OALEDVA_MUST_USE static inline oaledva_answer oaledva_board_perform(oaledva_board *b, oaledva_log_entry call) {
+    const oaledva_answer refused = {(uint64_t)OALEDVA_SHAPE << OALEDVA_NUMBER_AT};
+    const uint64_t *const of = call.fields;
+    switch (call.kind) {
+    case OALEDVA_LOG_USER_ACCESS: {
+        const oaledva_kind kind = {of[1] != 0};
+        if (of[1] > 1 || of[2] > UINT32_MAX || of[3] > UINT32_MAX || of[4] > (of[1] == 0 ? 0 : UINT32_MAX)) return refused;
+        return oaledva_user_access(OALEDVA_LEND(*b), b->tag, of[0], kind, (uint32_t)of[2], (uint32_t)of[3], (uint32_t)of[4]);
+    }
+    case OALEDVA_LOG_SUPERVISOR_ACCESS: {
+        const oaledva_kind kind = {of[0] != 0};
+        if (of[0] > 1 || of[1] > UINT32_MAX || of[3] > (of[0] == 0 ? 0 : UINT32_MAX)) return refused;
+        return oaledva_supervisor_access(OALEDVA_LEND(*b), b->tag, kind, (uint32_t)of[1], of[2], (uint32_t)of[3]);
+    }
+    case OALEDVA_LOG_ATTACH: {
+        const oaledva_permission permission = {of[3] != 0};
+        return of[3] > 1 ? refused : oaledva_board_attach(b, of[0], of[1], of[2], permission);
+    }
+    case OALEDVA_LOG_DETACH: return oaledva_board_detach(b, of[0], of[1]);
+    case OALEDVA_LOG_MAP: {
+        const oaledva_permission permission = {of[2] != 0};
+        return of[2] > 1 ? refused : oaledva_board_map(b, of[0], of[1], permission);
+    }
+    case OALEDVA_LOG_UNMAP: return oaledva_board_unmap(b, of[0]);
+    case OALEDVA_LOG_PROTECT: {
+        const oaledva_permission permission = {of[1] != 0};
+        return of[1] > 1 ? refused : oaledva_board_protect(b, of[0], permission);
+    }
+    case OALEDVA_LOG_FLUSH_ALL: return oaledva_board_flush_all(b);
+    case OALEDVA_LOG_TAG: return oaledva_board_tag(b, of[0]);
+    case OALEDVA_LOG_LOAD_AND_MAP: return oaledva_board_load_and_map(b, of[0]);
+    case OALEDVA_LOG_DROP_TAG: return oaledva_board_drop_tag(b);
+    }
+    return refused;
 }
 
 #ifdef __cplusplus

@@ -2,6 +2,7 @@
 
 mod board;
 mod compare;
+mod counts;
 mod index;
 mod measure;
 mod ordinary;
@@ -12,14 +13,18 @@ mod refusals;
 mod report;
 mod rng;
 mod signature;
+mod times;
 mod versions;
+mod words;
 
 use compare::PLANTS;
+use counts::Counts;
 use measure::Planted;
 use patterns::{Pattern, PATTERNS};
-use report::{Counts, Method};
+use report::Method;
 use std::process::ExitCode;
 use versions::{Version, SCAN, VERSIONS};
+use words::{named, number, once_or_twice, read};
 
 const USAGE: &str = "usage: accesses [--accesses N] [--rounds N] [--emulated] [--counts FILE] [--plant WHAT VERSION]
        accesses --brief [--plant WHAT VERSION]
@@ -62,9 +67,12 @@ fn options(mut arguments: impl Iterator<Item = String>) -> Result<Options, Strin
             "--rounds" => options.rounds = number(&value()?)?,
             "--emulated" => options.emulated = true,
             "--brief" => options.brief = true,
-            "--counts" => options.counts = report::counts(&read(&value()?)?, COUNTED)?,
+            "--counts" => options.counts = counts::counts(&read(&value()?)?, COUNTED)?,
             "--plant" => options.planted = Some((named(&PLANTS, &value()?)?, version(&value()?)?.name)),
-            "--count" => options.count = Some((pattern(&value()?)?, version(&value()?)?, times(&value()?)? * COUNTED)),
+            "--count" => {
+                let (pattern, version) = (Pattern::named(&value()?)?, version(&value()?)?);
+                options.count = Some((pattern, version, once_or_twice(&value()?)? * COUNTED));
+            }
             "--patterns" => options.names = Some(PATTERNS.iter().map(|pattern| pattern.name).collect()),
             "--versions" => options.names = Some(VERSIONS.iter().map(|version| version.name).collect()),
             "--plants" => options.names = Some(PLANTS.iter().map(|(name, _)| *name).collect()),
@@ -74,28 +82,8 @@ fn options(mut arguments: impl Iterator<Item = String>) -> Result<Options, Strin
     Ok(options)
 }
 
-fn number(word: &str) -> Result<usize, String> {
-    word.parse().ok().filter(|&number| number > 0).ok_or(format!("'{word}' is no number above 0"))
-}
-
-fn read(file: &str) -> Result<String, String> {
-    std::fs::read_to_string(file).map_err(|error| format!("cannot read {file}: {error}"))
-}
-
-fn named<T: Copy>(all: &[(&str, T)], word: &str) -> Result<T, String> {
-    all.iter().find(|(name, _)| *name == word).map(|(_, of)| *of).ok_or(format!("there is no '{word}'"))
-}
-
-fn pattern(word: &str) -> Result<&'static Pattern, String> {
-    PATTERNS.iter().find(|pattern| pattern.name == word).ok_or(format!("there is no pattern '{word}'"))
-}
-
 fn version(word: &str) -> Result<&'static Version, String> {
     VERSIONS.iter().find(|version| version.name == word).ok_or(format!("there is no version '{word}'"))
-}
-
-fn times(word: &str) -> Result<usize, String> {
-    named(&[("once", 1), ("twice", 2)], word)
 }
 
 fn main() -> ExitCode {

@@ -173,6 +173,10 @@ pub struct Case {
 }
 
 impl Pattern {
+    pub fn named(word: &str) -> Result<&'static Pattern, String> {
+        PATTERNS.iter().find(|pattern| pattern.name == word).ok_or(format!("there is no pattern '{word}'"))
+    }
+
     /// The board is warm: accesses over all lines, then such as the pattern's own, were made before.
     pub fn case(&self, length: usize) -> Case {
         let rng = &mut Rng(SEED);

@@ -1,25 +1,11 @@
 //! What the benchmark prints.
 
-use crate::measure::{Spread, Times};
+use crate::counts::{told, Counts};
 use crate::patterns::{Case, Kinds, Pattern, ATTACHED_BY_EACH, PATTERNS, SEGMENTS, SHAPE, WARMING};
+use crate::times::Times;
 use crate::versions::{Outcome, OURS, SCANS, VERSIONS};
 use oaledva::ffi::Kind;
 use oaledva::Shape;
-use std::collections::HashMap;
-
-/// Instructions for one access, by pattern and version.
-pub type Counts = HashMap<(String, String), f64>;
-
-/// Lines of a pattern, a version, and the program's instructions with so many accesses and with twice as many.
-pub fn counts(text: &str, accesses: usize) -> Result<Counts, String> {
-    let count = |line: &str| {
-        let words: Vec<_> = line.split_whitespace().collect();
-        let [pattern, version, once, twice] = words[..] else { return None };
-        let [once, twice]: [f64; 2] = [once.parse().ok()?, twice.parse().ok()?];
-        Some(((pattern.into(), version.into()), (twice - once) / accesses as f64))
-    };
-    text.lines().map(|line| count(line).ok_or(format!("no count of instructions: {line}"))).collect()
-}
 
 /// The share of answers with a mark, in percent.
 fn marked(answers: &[u64], mark: u64) -> f64 {
@@ -54,14 +40,11 @@ pub fn counted_hits(outcome: &Outcome) -> String {
 
 /// A pattern's table: a line for each version. Where the times say nothing, the counts alone.
 pub fn table(pattern: &Pattern, times: Option<&Times>, accesses: usize, counts: &Counts) {
-    let count = |version: &str| {
-        let count = counts.get(&(pattern.name.into(), version.into()));
-        count.map_or("-".into(), |count| format!("{count:.1}"))
-    };
+    let count = |version: &str| told(counts, pattern.name, version);
     if let Some(times) = times {
         println!("{} {:>6} {:>13}", row("", heads()), "ns", "instructions");
         for (at, version) in VERSIONS.iter().enumerate() {
-            let ratios = SCANS.map(|scan| spread_text(times.ratio(at, scan)));
+            let ratios = SCANS.map(|scan| times.ratio(at, scan).to_string());
             let (each, count) = (times.nanoseconds(at, accesses), count(version.name));
             println!("{} {each:6.1} {count:>13}", row(version.words, ratios));
         }
@@ -77,10 +60,6 @@ fn row(first: &str, [called, inlined, signature]: [String; SCANS.len()]) -> Stri
 
 fn heads() -> [String; SCANS.len()] {
     SCANS.map(|scan| format!("to {}", VERSIONS[scan].words))
-}
-
-fn spread_text(Spread { low, median, high }: Spread) -> String {
-    format!("{median:.2} ({low:.2} to {high:.2})")
 }
 
 /// The worst of each of ours.
@@ -111,7 +90,7 @@ impl Method<'_> {
         let &Method { accesses, counted, rounds, processor, emulated } = self;
         let Shape { frames, uncached, processes, lines } = SHAPE;
         let (mapped, segments, twice) = (frames - uncached, SEGMENTS.len(), 2 * counted);
-        let (rustc, plays) = (env!("ACCESSES_RUSTC"), if emulated { "emulated" } else { "not emulated" });
+        let (rustc, plays) = (env!("BENCH_RUSTC"), if emulated { "emulated" } else { "not emulated" });
         println!(
             "
 Method

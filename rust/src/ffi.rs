@@ -2,7 +2,8 @@
 //! [`oaledva_entry_of_page`] takes a board: the shape (four numbers) and the five buffers first, each as a pointer and its
 //! length in elements; a call says of each buffer whether it only reads it or may write it. Answers, places, entries and flags
 //! are numbers in types of their own, as in the header, and are passed as these numbers. A list's answers are written as an
-//! array of such numbers, and its accesses read as one of words ([`Access`]).
+//! array of such numbers, and its accesses read as one of words ([`Access`]). The functions of logs take no board: a reader's
+//! state, pieces of a log and its entries ([`LogEntry`]) are buffers likewise.
 //!
 //! The tag of an access is two numbers: `set`, which is not 0 where a tag is pending, and `name`, its line name.
 //!
@@ -187,6 +188,73 @@ const fn process_word(process: usize) -> u32 {
     }
 }
 
+/// What a log holds, in [`LOG_ENTRY_WORDS`] numbers: first the header, which has the four numbers of a board, then calls.
+/// [`log`](crate::log) makes one of a call, and a call of one.
+#[derive(Clone, Copy, Debug, PartialEq, Eq, Hash)]
+#[repr(C)]
+pub struct LogEntry {
+    /// The number of a [`log::Kind`](crate::log::Kind); 0 is the header.
+    pub kind: u64,
+    /// What that kind has, in the order of [`log::Kind::fields`](crate::log::Kind::fields), then 0.
+    pub fields: [u64; 5],
+}
+
+/// How many numbers a [`LogEntry`] is.
+pub const LOG_ENTRY_WORDS: usize = 6;
+
+/// How much room [`oaledva_log_write`] asks for. No entry takes as much.
+pub const LOG_ENTRY_BYTES: usize = 60;
+
+// So that a slice of entries may be lent as one of numbers.
+const _: () = assert!(
+    std::mem::size_of::<LogEntry>() == LOG_ENTRY_WORDS * std::mem::size_of::<u64>()
+        && std::mem::align_of::<LogEntry>() == std::mem::align_of::<u64>()
+);
+
+/// A reader's state, in words.
+pub const LOG_STATE_WORDS: usize = 11;
+
+/// The state of a reader that has taken nothing.
+pub const LOG_STATE_FRESH: [u64; LOG_STATE_WORDS] = [0, 0, 0, 1, 0, 0, 0, 0, 0, 0, 0];
+
+/// What [`oaledva_log_read`] gives where its buffers don't fit: then it has done nothing.
+pub const LOG_NOTHING: u64 = u64::MAX;
+
+/// What writing an entry gives, as one number: how many bytes it is, or reason × 2^32 + the field that is too large.
+#[derive(Clone, Copy, Debug, PartialEq, Eq)]
+#[must_use]
+#[repr(transparent)]
+pub struct LogWritten {
+    packed: u64,
+}
+
+impl LogWritten {
+    const REASON_AT: u32 = 32;
+
+    /// How many bytes were written; 0 where the entry was refused.
+    pub fn bytes(self) -> usize {
+        if self.reason() == 0 {
+            self.packed as usize
+        } else {
+            0
+        }
+    }
+
+    /// The number of a [`log::Reason`](crate::log::Reason): why the entry was refused; 0 where it was written.
+    pub fn reason(self) -> u32 {
+        (self.packed >> Self::REASON_AT) as u32
+    }
+
+    /// The field that is too large, counted from 1; 0 where none is.
+    pub fn field(self) -> u32 {
+        if self.reason() == 0 {
+            0
+        } else {
+            self.packed as u32
+        }
+    }
+}
+
 macro_rules! pointer {
     (read $element:ty) => { *const $element };
     (write $element:ty) => { *mut $element };
@@ -270,4 +338,22 @@ calls! {
 extern "C" {
     /// Where the page table entry of a page stands. Nothing is asked of the number, and no pointer is taken.
     pub fn oaledva_entry_of_page(page: u64) -> Entry;
+    /// Takes the next piece of a log, as far as there is room for its entries, and gives how many of them it wrote; or
+    /// [`LOG_NOTHING`]. A reader begins with [`LOG_STATE_FRESH`]; the first word of its state is how many bytes it has taken.
+    pub fn oaledva_log_read(
+        state: *mut u64,
+        state_length: usize,
+        piece: *const u8,
+        piece_length: usize,
+        entries: *mut u64,
+        entries_length: usize,
+    ) -> u64;
+    /// Why a log was refused, as the number of a [`log::Reason`](crate::log::Reason), or 0. Where `ended` is not 0 the log has
+    /// no more bytes, and may be cut.
+    pub fn oaledva_log_reason(state: *const u64, state_length: usize, ended: u32) -> u64;
+    /// The byte at which a log was refused; where it was not, how many bytes were taken.
+    pub fn oaledva_log_place(state: *const u64, state_length: usize) -> u64;
+    /// Writes an entry's bytes to the start of a buffer of at least [`LOG_ENTRY_BYTES`], or nothing.
+    pub fn oaledva_log_write(entry: *const u64, entry_length: usize, bytes: *mut u8, bytes_length: usize)
+        -> LogWritten;
 }

@@ -4,6 +4,7 @@
 compile_error!("the static library is for x86-64 Linux: build with --target x86_64-unknown-linux-gnu");
 
 pub mod ffi;
+pub mod log;
 mod mark;
 mod numbered;
 mod refusal;
@@ -106,7 +107,7 @@ pub type Lent<'a> = Board<&'a mut [u32], &'a mut [u64], &'a mut [u8]>;
 
 impl Board {
     /// A fresh board, its memory zero. Refused by [`Refusal::Shape`] if a number is out of its limits. As with any vector, the
-    /// program ends where there is no memory for it; [`Lent::over`] takes memory of yours.
+    /// program ends where there is no memory for it; [`Lent::over`] takes memory of yours, and [`Board::for_replay`] says so.
     pub fn new(shape: Shape) -> Result<Board, Refusal> {
         if !shape.keeps_limits() {
             return Err(Refusal::Shape);

@@ -26,6 +26,7 @@ macro_rules! numbered {
                 }
             }
 
+            #[inline]
             fn by_number(number: u32) -> $kind {
                 match number {
                     $($number => $kind::$name,)*

@@ -2,7 +2,8 @@
 // types and what is only read are compared, in one common form: `name: type`, a slice as a pointer and a length. The header
 // and ffi.rs put some numbers into types of their own, which the source doesn't have: there such a type is its number. The
 // header alone has one of two numbers, the tag, which must be passed as these two are. So are the numbers with names compared,
-// refusals and marks, how an answer and an entry are packed, and how many words an access is.
+// refusals and marks, and of logs kinds and reasons, with their words; how an answer, an entry and what writing gives are packed;
+// and how many words an access, an entry of a log and a reader's state are.
 use std::collections::BTreeMap;
 
 /// A function's parameters and its result.
@@ -57,7 +58,7 @@ fn rust_type(kind: &str) -> String {
     let title = |word: &str| word[..1].to_uppercase() + &word[1..];
     match (kind, kind.strip_prefix("oaledva_")) {
         ("size_t", _) => "usize".into(),
-        (_, Some(own)) => title(own),
+        (_, Some(own)) => own.split('_').map(title).collect(),
         _ => kind.replace("uint", "u").replace("_t", ""),
     }
 }
@@ -96,15 +97,19 @@ fn types_of_c(header: &str) -> Types {
         let fields = body.split(';').map(str::trim).filter(|field| !field.is_empty());
         fields
             .map(|field| field.split_once(' ').unwrap())
-            .map(|(kind, name)| format!("{name}: {}", rust_type(kind)))
+            .map(|(kind, name)| match name.strip_suffix(']').and_then(|name| name.split_once('[')) {
+                Some((name, length)) => format!("{name}: [{}; {length}]", rust_type(kind)),
+                None => format!("{name}: {}", rust_type(kind)),
+            })
             .collect()
     };
     let mut types = Types::new();
     let mut rest = header;
     while let Some((declared, after)) = between(rest, "typedef struct ", "}") {
         let (name, body) = declared.trim_start_matches("OALEDVA_MUST_USE_TYPE ").split_once(" {").unwrap();
-        // These two stay in the header: no function of the library takes or gives one.
-        if !["oaledva_board", "oaledva_marked"].contains(&name) {
+        // These stay in the header: no function of the library takes or gives one.
+        let own = ["board", "marked", "log_bytes", "log_reader", "log_piece"].map(|own| format!("oaledva_{own}"));
+        if !own.contains(&name.into()) {
             types.insert(rust_type(name), numbers(body));
         }
         rest = after;
@@ -141,8 +146,8 @@ fn of_rust(declarations: &str) -> Functions {
     for (begins, first) in [("    fn ", first), ("    pub fn ", "")] {
         let mut rest = declarations.split_once("calls! {").unwrap().1;
         while let Some((name, after)) = between(rest, begins, "(") {
-            let (parameters, after) = after.split_once(") -> ").unwrap();
-            let (result, after) = after.split_once(';').unwrap();
+            let (parameters, after) = after.split_once(')').unwrap();
+            let (result, after) = between(after, "-> ", ";").unwrap();
             let (own, buffers): (Vec<_>, Vec<_>) = list(parameters).into_iter().partition(|part| part.contains(": "));
             let common = list(first).into_iter().map(|parameter| {
                 let lent = between(&parameter, "pointer!($", ")").and_then(|(of, _)| of.split_once(' '));
@@ -235,7 +240,7 @@ fn defined(header: &str) -> Numbers {
     numbers(header, |line| line.strip_prefix("#define OALEDVA_")?.split_once(' '))
 }
 
-/// The header's two enumerations: refusals, marks.
+/// The header's four enumerations: refusals, marks; of logs kinds and reasons.
 fn enumerated(header: &str) -> Vec<Numbers> {
     let bodies = header.split("\nenum {\n").skip(1).map(|rest| rest.split("\n};").next().unwrap());
     bodies.map(|body| numbers(body, |line| line.strip_prefix("OALEDVA_")?.split_once(" = "))).collect()
@@ -256,17 +261,18 @@ fn the_source_the_header_and_the_crate_declare_the_same() {
     let mut source = of_rattle(&text("crates/oaledva/src/lib.rt"));
     source.extend(of_rattle(&text("crates/oaledva_user/src/lib.rt")));
     source.extend(of_rattle(&text("crates/oaledva_list/src/lib.rt")));
-    assert_eq!(source.len(), 15);
+    source.extend(of_rattle(&text("crates/oaledva_log/src/lib.rt")));
+    assert_eq!(source.len(), 19);
     let (header, crates) = (text("include/oaledva.h"), text("rust/src/ffi.rs"));
     let types = types_of_c(&header);
     assert_eq!(
         types.keys().collect::<Vec<_>>(),
-        ["Access", "Answer", "Entry", "Kind", "Looked", "Pending", "Permission", "Place"]
+        ["Access", "Answer", "Entry", "Kind", "LogEntry", "LogWritten", "Looked", "Pending", "Permission", "Place"]
     );
     let mut shared = types.clone();
     shared.remove("Pending");
     assert_eq!(shared, types_of_rust(&crates));
-    for kind in ["Answer", "Entry", "Looked", "Place"] {
+    for kind in ["Answer", "Entry", "LogWritten", "Looked", "Place"] {
         assert!(
             crates.contains(&format!("#[must_use]\n#[repr(transparent)]\npub struct {kind} {{")),
             "may be ignored: {kind}"
@@ -292,10 +298,30 @@ fn an_access_is_so_many_words() {
     assert_eq!(constants(&crates)["ACCESS_WORDS"], words.len() as u64);
 }
 
+/// So is an entry of a log, of numbers. And a reader begins with the same words in both, which are as many as its state has.
+#[test]
+fn an_entry_of_a_log_and_a_reader_are_so_many_words() {
+    let (header, crates) = (text("include/oaledva.h"), text("rust/src/ffi.rs"));
+    assert_eq!(types_of_c(&header)["LogEntry"], ["kind: u64", "fields: [u64; 5]"]);
+    let (said, given) = (defined(&header), constants(&crates));
+    assert_eq!(said["LOG_ENTRY_WORDS"], 6);
+    for name in ["LOG_ENTRY_WORDS", "LOG_ENTRY_BYTES", "LOG_STATE_WORDS"] {
+        assert_eq!(said[name], given[name], "{name}");
+    }
+    let begins = list(between(&header, "#define OALEDVA_LOG_READER {{", "}}").unwrap().0);
+    assert_eq!(begins.len() as u64, said["LOG_STATE_WORDS"]);
+    let (fresh, _) = between(&crates, "LOG_STATE_FRESH: [u64; LOG_STATE_WORDS] = [", "]").unwrap();
+    assert_eq!(begins, list(fresh));
+    assert!(header.contains("uint64_t state[OALEDVA_LOG_STATE_WORDS];"));
+    assert!(
+        header.contains("#define OALEDVA_LOG_NOTHING UINT64_MAX\n") && crates.contains("LOG_NOTHING: u64 = u64::MAX;")
+    );
+}
+
 /// The marks have names in all three, the refusals in the header and the crate.
 #[test]
 fn numbers_with_names_are_the_same() {
-    let [refusals, marks] = &enumerated(&text("include/oaledva.h"))[..] else { panic!("not two enumerations") };
+    let [refusals, marks, ..] = &enumerated(&text("include/oaledva.h"))[..] else { panic!("not two enumerations") };
     assert_eq!((refusals.len(), marks.len()), (13, 5));
     assert_eq!(refusals, &numbered(&text("rust/src/refusal.rs")));
     assert_eq!(marks, &numbered(&text("rust/src/mark.rs")));
@@ -305,12 +331,48 @@ fn numbers_with_names_are_the_same() {
     }
 }
 
+/// Of logs: the kinds, with what their fields are called, and the reasons, with their words. In the source the reasons have
+/// shorter names.
+#[test]
+fn kinds_and_reasons_are_the_same() {
+    let header = text("include/oaledva.h");
+    let [_, _, kinds, reasons] = &enumerated(&header)[..] else { panic!("not four enumerations") };
+    let in_logs = |numbers: Numbers| -> Numbers {
+        numbers.into_iter().map(|(name, number)| (format!("LOG_{name}"), number)).collect()
+    };
+    let mut calls = kinds.clone();
+    assert_eq!(calls.remove("LOG_HEADER"), Some(0));
+    assert_eq!((calls.len(), reasons.len()), (11, 6));
+    assert_eq!(calls, in_logs(numbered(&text("rust/src/log/kind.rs"))));
+    assert_eq!(reasons, &in_logs(numbered(&text("rust/src/log/reason.rs"))));
+    for (name, number) in &calls {
+        let fields = oaledva::log::Kind::of(*number).unwrap().fields();
+        let words = if fields.is_empty() { "none".into() } else { fields.join(", ") };
+        let line = header.lines().find(|line| line.trim().starts_with(&format!("OALEDVA_{name} = "))).unwrap();
+        assert!(line.ends_with(&format!("/* {words} */")), "{line}");
+    }
+    let source = constants(&text("crates/log_numbers/src/lib.rt"));
+    for (name, number) in reasons {
+        let reason = oaledva::log::Reason::of(*number as u32).unwrap();
+        let line = format!("    case OALEDVA_{name}: return \"{}\";\n", reason.words());
+        assert!(header.contains(&line), "{line}");
+        let short = match name.as_str() {
+            "LOG_TENTH_BYTE" => "TENTH",
+            "LOG_UNKNOWN_KIND" => "KIND",
+            "LOG_TOO_LARGE" => "FIELD",
+            _ => &name["LOG_".len()..],
+        };
+        assert_eq!(source.get(short), Some(number), "{short}");
+    }
+}
+
 #[test]
 fn answers_and_entries_are_packed_the_same() {
     let (header, crates) = (defined(&text("include/oaledva.h")), text("rust/src/ffi.rs"));
     let of = |kind: &str| constants(between(&crates, &format!("\nimpl {kind} {{\n"), "\n}").unwrap().0);
-    let (answer, entry) = (of("Answer"), of("Entry"));
-    assert_eq!((answer.len(), entry.len()), (3, 1));
+    let (answer, entry, written) = (of("Answer"), of("Entry"), of("LogWritten"));
+    assert_eq!((answer.len(), entry.len(), written.len()), (3, 1, 1));
+    assert_eq!(header["LOG_REASON_AT"], written["REASON_AT"]);
     for (name, number) in &answer {
         assert_eq!(header.get(name), Some(number), "{name}");
     }
@@ -347,10 +409,16 @@ fn a_changed_declaration_shows() {
     of_c_changed("entry_of_page(uint64_t page)", "entry_of_page(uint32_t page)");
     of_c_changed("oaledva_entry oaledva_entry_of_page", "oaledva_place oaledva_entry_of_page");
     of_c_changed("    oaledva_answer *answers", "    const oaledva_answer *answers");
+    of_c_changed("    uint64_t *state, size_t state_length", "    const uint64_t *state, size_t state_length");
+    of_c_changed("    const uint8_t *piece", "    const uint64_t *piece");
+    of_c_changed("size_t state_length, uint32_t ended", "uint32_t ended, size_t state_length");
+    of_c_changed("oaledva_log_written oaledva_log_write(", "uint64_t oaledva_log_write(");
     let narrow = changed(&header, "    oaledva_answer *answers", "    uint32_t *answers");
     let types = types_of_c(&header);
     assert_ne!(in_numbers(of_c(&header), &types), in_numbers(of_c(&narrow), &types));
     assert_ne!(types, types_of_c(&changed(&header, "    uint32_t width;", "    uint64_t width;")));
+    assert_ne!(types, types_of_c(&changed(&header, "    uint64_t fields[5];", "    uint64_t fields[6];")));
+    assert_ne!(types, types_of_c(&changed(&header, "    uint64_t kind;\n", "")));
     assert_ne!(defined(&header), defined(&changed(&header, "OALEDVA_ACCESS_WORDS 5", "OALEDVA_ACCESS_WORDS 4")));
     assert_ne!(types_of_c(&header), types_of_c(&changed(&header, "    uint32_t set;", "    uint64_t set;")));
     let tag_changed = |old, new| {
@@ -380,9 +448,14 @@ fn a_changed_declaration_shows() {
     assert_ne!(enumerated(&header), enumerated(&changed(&header, "    OALEDVA_TAG = 3,", "    OALEDVA_TAG = 4,")));
     assert_ne!(defined(&header), defined(&changed(&header, "OALEDVA_NUMBER_AT 56", "OALEDVA_NUMBER_AT 55")));
     assert_ne!(defined(&header), defined(&changed(&header, "OALEDVA_MARK_MASK 0xff", "OALEDVA_MARK_MASK 0x7f")));
+    assert_ne!(enumerated(&header), enumerated(&changed(&header, "OALEDVA_LOG_MAP = 5,", "OALEDVA_LOG_MAP = 6,")));
+    assert_ne!(enumerated(&header), enumerated(&changed(&header, "OALEDVA_LOG_CUT = 4,", "OALEDVA_LOG_SHORT = 4,")));
     assert_ne!(numbered(&marks), numbered(&changed(&marks, "Refilled = 2", "Refilled = 3")));
     assert_ne!(numbered(&marks), numbered(&changed(&marks, "    WroteBack =", "    Wroteback =")));
     assert_ne!(of_rust(&crates), of_rust(&changed(&crates, "answers: *mut Answer", "answers: *mut u32")));
+    assert_ne!(of_rust(&crates), of_rust(&changed(&crates, "state: *mut u64", "state: *const u64")));
+    assert_ne!(of_rust(&crates), of_rust(&changed(&crates, "ended: u32", "ended: u64")));
+    assert_ne!(types_of_rust(&crates), types_of_rust(&changed(&crates, "fields: [u64; 5]", "fields: [u64; 4]")));
     assert_ne!(constants(&crates), constants(&changed(&crates, "MARK_AT: u32 = 32", "MARK_AT: u32 = 33")));
     assert_ne!(constants(&crates), constants(&changed(&crates, "ACCESS_WORDS: usize = 5", "ACCESS_WORDS: usize = 4")));
     assert_ne!(constants(&board), constants(&changed(&board, "WROTE_BACK: u32 = 3", "WROTE_BACK: u32 = 2")));

@@ -1,32 +1,13 @@
 /* What the header adds to the library's functions, tried: boards in static buffers and in a block, limits, the calls on a
  * board, lists of accesses, values and widths, marks, look's bytes, entries. tests/c/run compiles this as C99, C11, C++11 and
  * C++17 and runs each. */
-#include <oaledva.h>
+#include "expect.h"
 #include <oaledva.h> /* twice is once */
-#include <stdio.h>
-#include <stdlib.h>
 #include <string.h>
-
-#define EXPECT(condition)                                                                                          \
-    do {                                                                                                           \
-        if (!(condition)) {                                                                                        \
-            fprintf(stderr, "tests/c/board.c:%d: not so: %s\n", __LINE__, #condition);                             \
-            exit(1);                                                                                               \
-        }                                                                                                          \
-    } while (0)
-
-#define PAGE ((uint64_t)0x200000)
 
 OALEDVA_STATIC_BOARD(outside, 4, 1, 2, 2);
 OALEDVA_STATIC_BOARD(largest, 4, 1, OALEDVA_PROCESSES_MAX, OALEDVA_LINES_MAX);
 OALEDVA_STATIC_BOARD(reckoned, 0 ? 3 : 5, 1 ? 1 : 7, 1 + 2, 2 + 2);
-
-/* An answer as 01's tables write it; and it is packed of these three, with nothing between. */
-static int gives(oaledva_answer answer, uint32_t number, uint32_t value, uint32_t mark) {
-    return oaledva_number(answer) == number && oaledva_value(answer) == value && oaledva_mark(answer).mark == mark
-           && oaledva_done(answer) == (number == 0) && oaledva_hit(answer) == (mark == 1)
-           && answer.packed == ((uint64_t)number << 56) + ((uint64_t)mark << 32) + value;
-}
 
 /* Every call of a board, on a fresh one of F 4, U 1 and any P and L, by its last process. */
 static void every_call(oaledva_board *b) {

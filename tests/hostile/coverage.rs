@@ -1,11 +1,12 @@
 //! What was reached: each refusal number of each call, each case, each route of each call, each mark of each call by each route,
 //! each call at the limits of P and L, each value at the end of a width beside each number, each sight at a page's places, what
-//! lists meet; and what must be.
+//! lists meet, and logs; and what must be.
 
 use crate::cases::{Case, Reach, CASES};
 use crate::limits::{ENTRY_PAGES, LINES_MAX, MARKS, PROCESSES_MAX, VALUES, WIDTHS};
 use crate::list_runs::CAUSES;
 use crate::lists::{self, Reached, Tally, ENDS, SPOTS};
+use crate::log_sights::Logs;
 use crate::marks::{self, MARKED, OUTCOMES};
 use crate::routes::{Route, ROUTES};
 use crate::sights::{Sight, Size, Sweep, SIGHTS, SIZES, SWEEPS};
@@ -41,7 +42,7 @@ const LISTS: usize = 11;
 const LOOKS: usize = 12;
 const ENTRIES: usize = 14;
 
-/// The row of a deed in `KINDS`; an audit is no call.
+/// The row of a deed in `KINDS`; what is done with logs is counted apart, and an audit is no call.
 fn row_of(deed: &Deed) -> Option<usize> {
     Some(match deed {
         Deed::Call(Call::UserAccess { .. }) => 0,
@@ -59,7 +60,7 @@ fn row_of(deed: &Deed) -> Option<usize> {
         Deed::Look { .. } => LOOKS,
         Deed::LookNumber { .. } => LOOKS + 1,
         Deed::Entry { .. } => ENTRIES,
-        Deed::Audit => return None,
+        Deed::Read(_) | Deed::Write(_) | Deed::Audit => return None,
     })
 }
 
@@ -166,6 +167,7 @@ pub struct Coverage {
     pub pairs_write_back: u64,
     /// Those in which a list with accesses of the process had other accesses of the others.
     pub pairs_list: u64,
+    pub logs: Logs,
 }
 
 impl Coverage {
@@ -183,6 +185,7 @@ impl Coverage {
             pairs_hit: 0,
             pairs_write_back: 0,
             pairs_list: 0,
+            logs: Logs::new(),
         }
     }
 
@@ -368,6 +371,7 @@ impl Coverage {
                 see(format_args!("{call} by the {route} route"), count);
             }
         }
+        self.logs.each_required(&mut see);
         see(format_args!("an audit of a fresh board"), &mut self.audits);
         see(format_args!("a pair of runs"), &mut self.pairs);
         see(format_args!("a pair of runs with a hit in one only"), &mut self.pairs_hit);

@@ -133,6 +133,10 @@ impl<T: Element> Guarded<T> {
         before == &self.edge[..before.len()] && behind == &self.edge[..behind.len()]
     }
 
+    pub fn ends_at_fence(&self) -> bool {
+        self.all.len() == self.front + self.length
+    }
+
     /// Reads what stands right behind the buffer, or right before it: a planted fault.
     pub fn read_outside(&self, behind: bool) {
         let inner = self.inner().as_ptr();

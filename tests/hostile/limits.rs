@@ -1,5 +1,5 @@
-//! 01's numbers, with P and L by CR 7, and those of CR 2, CR 5, CR 8 and CR 12, written out again: what the test tries must not
-//! move with a mistake in the model.
+//! 01's numbers, with P and L by CR 7, and those of CR 1, CR 2, CR 5, CR 8 and CR 12, written out again: what the test tries must
+//! not move with a mistake in the model.
 
 pub const PAGE_BYTES: u64 = 4096;
 pub const LINE_BYTES: u64 = 16;
@@ -66,3 +66,81 @@ pub const HIT: u32 = 1;
 pub const PREFIX1: u64 = 0x1_0000_0000;
 pub const PREFIX1_END: u64 = 0x2_0000_0000;
 pub const PAGE_TABLE: u64 = 0xFFC_0000_0000;
+
+// ----- logs, by CR 1 -----
+
+/// What a field of an entry may be.
+#[derive(Clone, Copy, Debug, PartialEq, Eq)]
+pub enum Limit {
+    /// Any number.
+    Any,
+    /// Load or store: 0 or 1.
+    LoadOrStore,
+    /// A write bit: 0 or 1.
+    Flag,
+    /// Below 2^32.
+    Short,
+    /// Below 2^32, and 0 in a load.
+    Value,
+}
+
+use Limit::{Any, Flag, LoadOrStore, Short, Value};
+
+/// The header, which has no kind of its own in a log, then the kinds from 1 to 11: in words, with their fields.
+pub const ENTRIES: [(&str, &[(&str, Limit)]); 12] = [
+    ("header", &[("F", Any), ("U", Any), ("P", Any), ("L", Any)]),
+    (
+        "user access",
+        &[("process", Any), ("load or store", LoadOrStore), ("width", Short), ("address", Short), ("value", Value)],
+    ),
+    ("supervisor access", &[("load or store", LoadOrStore), ("width", Short), ("address", Any), ("value", Value)]),
+    ("attach", &[("process", Any), ("slot", Any), ("segment", Any), ("write bit", Flag)]),
+    ("detach", &[("process", Any), ("slot", Any)]),
+    ("map", &[("page", Any), ("frame", Any), ("write bit", Flag)]),
+    ("unmap", &[("page", Any)]),
+    ("protect", &[("page", Any), ("write bit", Flag)]),
+    ("flush all", &[]),
+    ("tag", &[("line name", Any)]),
+    ("load-and-map", &[("physical line", Any)]),
+    ("drop tag", &[]),
+];
+
+/// The fields of a kind, the header being 0; none where there is no such kind.
+pub fn fields_of(kind: u64) -> &'static [(&'static str, Limit)] {
+    usize::try_from(kind).ok().and_then(|kind| ENTRIES.get(kind)).map_or(&[], |(_, fields)| fields)
+}
+
+/// The first number that is too large for a field, or none; of a value in a load or in a store.
+pub fn end_of_field(limit: Limit, load: bool) -> Option<u64> {
+    match limit {
+        Any => None,
+        LoadOrStore | Flag => Some(2),
+        Value if load => Some(1),
+        Short | Value => Some(1 << 32),
+    }
+}
+
+/// A number has ten bytes at most.
+pub const NUMBER_BYTES: usize = 10;
+
+/// The reasons for which a log or an entry is refused.
+pub mod reason {
+    pub const MISFIT: u64 = 1;
+    pub const PADDED: u64 = 2;
+    pub const TENTH_BYTE: u64 = 3;
+    pub const CUT: u64 = 4;
+    pub const UNKNOWN_KIND: u64 = 5;
+    pub const TOO_LARGE: u64 = 6;
+}
+
+/// As numbers, an entry is the kind and five fields. Written, it needs so much room.
+pub const ENTRY_WORDS: usize = 6;
+pub const ENTRY_BYTES: usize = 60;
+
+/// A reader's state: how many bytes it has taken, how many groups of a number it has and their worth, how many of an entry's
+/// words, those words, and why it refuses. The state of a reader that has taken nothing.
+pub const STATE_WORDS: usize = 11;
+pub const FRESH_STATE: [u64; STATE_WORDS] = [0, 0, 0, 1, 0, 0, 0, 0, 0, 0, 0];
+
+/// What reading gives where the buffers don't fit.
+pub const MISFIT: u64 = u64::MAX;

@@ -13,6 +13,12 @@ mod limits;
 mod list_faults;
 mod list_runs;
 mod lists;
+mod log_faults;
+mod log_gen;
+mod log_routes;
+mod log_runs;
+mod log_sights;
+mod logs;
 mod marks;
 mod pairs;
 mod places;
@@ -40,7 +46,7 @@ use shrink::Fails;
 use std::process::ExitCode;
 use trace::{Deed, Start, Step, Trace};
 
-const USAGE: &str = "usage: hostile [--calls N] [--seed S] [--plant FAULT]
+const USAGE: &str = "usage: hostile [--calls N] [--logs N] [--seed S] [--plant FAULT]
        hostile --replay FILE
        hostile --self-test
        hostile --largest";
@@ -48,11 +54,16 @@ const DEFAULT_CALLS: u64 = 250_000;
 const DEFAULT_SEED: u64 = 1;
 const TRACE_FILE: &str = "hostile-trace.txt";
 
+/// A damaged log is read for so many calls, but at least so many are.
+const CALLS_PER_LOG: u64 = 10;
+const LEAST_LOGS: u64 = 400_000;
+
 /// A pair of runs is tried after so many boards.
 const BOARDS_PER_PAIR: u64 = 40;
 
 struct Options {
     calls: u64,
+    logs: Option<u64>,
     seed: u64,
     plant: Option<Plant>,
     replay: Option<String>,
@@ -63,6 +74,7 @@ struct Options {
 fn options() -> Result<Options, String> {
     let mut options = Options {
         calls: DEFAULT_CALLS,
+        logs: None,
         seed: DEFAULT_SEED,
         plant: None,
         replay: None,
@@ -74,6 +86,7 @@ fn options() -> Result<Options, String> {
         let mut value = || arguments.next().ok_or(format!("{option} needs a value"));
         match option.as_str() {
             "--calls" => options.calls = trace::number(&value()?)?,
+            "--logs" => options.logs = Some(trace::number(&value()?)?),
             "--seed" => options.seed = trace::number(&value()?)?,
             "--plant" => options.plant = Some(trace::value_of(&plant::all(), &value()?)?),
             "--replay" => options.replay = Some(value()?),
@@ -206,14 +219,18 @@ fn search_and_report(options: &Options) -> Result<(), String> {
         let edges = edges::edges(&mut rng, options.plant, &mut coverage)?;
         let values = values::values(&mut rng, options.plant, &mut coverage)?;
         let places = places::places(&mut rng, options.plant, &mut coverage)?;
-        Ok((edges, values, places, list_runs::lists(&mut rng, options.plant, &mut coverage)?))
+        let lists = list_runs::lists(&mut rng, options.plant, &mut coverage)?;
+        let planned = log_runs::planned(&mut rng, options.plant, &mut coverage)?;
+        let logs = options.logs.unwrap_or(LEAST_LOGS.max(options.calls / CALLS_PER_LOG));
+        let trips = log_runs::search(&mut rng, logs, options.plant, &mut coverage)?;
+        Ok((edges, values, places, lists, (planned, logs, trips)))
     };
-    let (edges, values, places, lists) = match runs() {
+    let (edges, values, places, lists, (planned, logs, trips)) = match runs() {
         Ok(boards) => boards,
         Err(Failure::Run(trace, difference)) => return Err(report(run::first_difference, *trace, difference)?),
         Err(Failure::Apart(traces, text)) => return Err(report_pair(&traces, &text)?),
     };
-    println!("{}", coverage.table());
+    println!("{}\n{}\n", coverage.table(), coverage.logs.table());
     let Coverage { audits, audit_looks, pairs, pairs_hit, pairs_write_back, pairs_list, boards, .. } = coverage;
     println!("{} entries of pages", coverage.entries());
     println!("{} looks by themselves; {audits} audits of a fresh board with {audit_looks} looks", coverage.looks());
@@ -221,6 +238,7 @@ fn search_and_report(options: &Options) -> Result<(), String> {
     println!("{values} boards with values at the ends of the widths, beside each number that an access gives");
     println!("{places} boards with lines at the ends of a page's places, beside them and among them");
     println!("{lists} boards with lists of user accesses");
+    println!("{}", coverage.logs.told(planned, logs, trips));
     println!(
         "{pairs} pairs of runs, equal for process 0 but for marks; {pairs_hit} with a hit in one run only, \
          {pairs_write_back} with a refill's write-back in one only, {pairs_list} with a list in which the others' differ"
@@ -280,6 +298,7 @@ fn given_text(given: &Given) -> String {
         }
         Given::Look(number) => format!("number {number}"),
         Given::Entry(number, value) => format!("number {number}, value {value:#x}"),
+        Given::Log(text) => text.clone(),
         Given::Audit => "as the plain machine's memory".into(),
     }
 }

@@ -6,6 +6,7 @@ use crate::guarded::{Element, Guarded, Lists, Real};
 use crate::limits::end_of_width;
 use crate::list_faults::{self, FAULTS};
 use crate::lists::List;
+use crate::log_faults;
 use crate::routes::{Looked, Told};
 use crate::run::Kind;
 use crate::values::{fitting, Access, Whose};
@@ -45,6 +46,8 @@ pub enum Plant {
     Asks(Asks),
     Marks(Marks),
     List(list_faults::Wrong),
+    /// None: what stands in for the library has no fault.
+    Log(Option<log_faults::Wrong>),
     Walk(Walk),
     Panic,
     Signal,
@@ -107,16 +110,17 @@ pub enum Marks {
 
 /// All faults, by name.
 pub fn all() -> Vec<(Plant, String)> {
-    searched().chain(walks().map(|(walk, name)| (Plant::Walk(walk), name))).collect()
+    let logs = log_faults::FAULTS.iter().map(|&(wrong, name, _)| (Plant::Log(Some(wrong)), name.to_string()));
+    searched().chain(logs).chain(walks().map(|(walk, name)| (Plant::Walk(walk), name))).collect()
 }
 
-/// All that random runs find: all but the walks.
+/// All that random runs on boards find: all but those of logs and the walks.
 pub fn searched() -> impl Iterator<Item = (Plant, String)> {
     let lists = FAULTS.into_iter().map(|(wrong, name, _)| (Plant::List(wrong), name));
     PLANTS.into_iter().chain(lists).map(|(plant, name)| (plant, name.to_string()))
 }
 
-/// All but those in lists and in walks.
+/// All but those in lists, in logs and in walks.
 pub const PLANTS: [(Plant, &str); 53] = [
     (Plant::Number, "number"),
     (Plant::Value, "value"),
@@ -201,6 +205,7 @@ impl Plant {
             Plant::PlainNumber | Plant::PlainValue | Plant::PlainMemory => Kind::Plain,
             Plant::TwoCopies => Kind::TwoCopies,
             Plant::List(wrong) => wrong.found_as(),
+            Plant::Log(wrong) => wrong.map_or(Kind::Panic, |wrong| wrong.found_as()),
             Plant::Panic => Kind::Panic,
             Plant::Signal | Plant::Hang | Plant::ReadsBehind | Plant::ReadsBefore => Kind::Signal,
         }

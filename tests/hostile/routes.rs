@@ -5,6 +5,7 @@
 use crate::guarded::{Guarded, Lists, Real};
 use crate::limits::{ACCESS_WORDS, FRAMES_MAX, HIT, LINES_MAX, LINE_BYTES, PROCESSES_MAX};
 use crate::lists::{Item, List};
+use crate::log_routes;
 use model::{Answer, Call, Shape};
 use oaledva::{ffi, Lent, Mark, Refusal};
 
@@ -124,7 +125,7 @@ pub struct CBoard {
 }
 
 impl CBoard {
-    fn of(real: &mut Real, null: bool) -> CBoard {
+    pub fn of(real: &mut Real, null: bool) -> CBoard {
         let (set, name) = real.tag();
         CBoard {
             frames: real.shape.frames as usize,
@@ -148,7 +149,7 @@ impl CBoard {
 }
 
 #[repr(C)]
-struct CAnswer {
+pub struct CAnswer {
     number: u32,
     mark: u32,
     value: u32,
@@ -265,6 +266,9 @@ pub fn header_disagrees() -> Option<String> {
     let ours = constants();
     if theirs != ours {
         return Some(format!("the header's numbers, marks and limits are {theirs:?}, the documents' {ours:?}"));
+    }
+    if let Some(problem) = log_routes::header_disagrees() {
+        return Some(problem);
     }
     let fresh = model::Board::fresh(Shape { frames: 3, uncached: 1, processes: 2, lines: 8 }).lengths();
     let ours = [fresh.slots, fresh.words, fresh.records, fresh.cache, fresh.memory].map(|length| length as usize);
@@ -464,7 +468,7 @@ fn answer_of(answer: ffi::Answer) -> Answer {
 
 // ----- through C -----
 
-fn told_in_c(CAnswer { number, mark, value, hit, packed }: CAnswer) -> Told {
+pub fn told_in_c(CAnswer { number, mark, value, hit, packed }: CAnswer) -> Told {
     Told { answer: Answer { number, mark, value }, hit: Some(hit), packed: Some(packed) }
 }
 
@@ -589,7 +593,7 @@ fn safe_call(real: &mut Real, call: &Call) -> Told {
     told_safely(done, mark, hit)
 }
 
-fn told_safely(done: Result<u32, Refusal>, mark: Mark, hit: bool) -> Told {
+pub fn told_safely(done: Result<u32, Refusal>, mark: Mark, hit: bool) -> Told {
     let (number, value) = done.map_or_else(|refusal| (refusal.number(), 0), |value| (0, value));
     Told { answer: Answer { number, mark: mark.number(), value }, hit: Some(hit.into()), packed: None }
 }

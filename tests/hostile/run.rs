@@ -6,6 +6,7 @@ use crate::coverage::{self, Coverage};
 use crate::guarded::{Element, Lists, Real};
 use crate::limits::{line_bytes, LINES_PER_PAGE};
 use crate::lists::{List, Tally};
+use crate::logs::{self, Written};
 use crate::marks;
 use crate::plant::Plant;
 use crate::routes::{self, Manner, Route};
@@ -28,6 +29,12 @@ pub enum Kind {
     Tag,
     Accesses,
     Answers,
+    Inputs,
+    Read,
+    Asked,
+    Whole,
+    Written,
+    Trip,
     Refused,
     Look,
     Entry,
@@ -50,14 +57,14 @@ pub fn differs(kind: Kind, text: impl Into<String>) -> Difference {
     Difference { kind, text: text.into() }
 }
 
-fn same<T: PartialEq + Display>(kind: Kind, what: &str, library: T, expected: T, whose: &str) -> Check {
+pub fn same<T: PartialEq + Display>(kind: Kind, what: &str, library: T, expected: T, whose: &str) -> Check {
     if library == expected {
         return Ok(());
     }
     Err(differs(kind, format!("{what}: the library gives {library}, {whose} {expected}")))
 }
 
-fn same_buffer<T: Element>(kind: Kind, what: &str, library: &[T], expected: &[T], whose: &str) -> Check {
+pub fn same_buffer<T: Element>(kind: Kind, what: &str, library: &[T], expected: &[T], whose: &str) -> Check {
     if library == expected {
         return Ok(());
     }
@@ -74,6 +81,8 @@ pub enum Given {
     List(Answer, Vec<(Answer, Event)>),
     Look(u32),
     Entry(u32, u64),
+    /// Of a log that was read, or an entry that was written, in words.
+    Log(String),
     Audit,
 }
 
@@ -96,6 +105,8 @@ pub struct Run {
     /// The buffers after the last call that was done: what a refused one must leave.
     kept: Board,
     real: Real,
+    /// The entries of logs that were written.
+    written: Written,
     plant: Option<Plant>,
 }
 
@@ -109,6 +120,7 @@ impl Run {
             plain: start.fresh.then(|| Plain::of(&model)),
             kept: model.clone(),
             real: Real::of(&model, &start.offsets),
+            written: Written::default(),
             model,
             plant,
         }
@@ -142,6 +154,16 @@ impl Run {
             Deed::Look { line } => self.look(line, &manner, coverage),
             Deed::LookNumber { line } => self.look_number(line, &manner, coverage),
             Deed::Entry { page } => self.entry(page, &manner, coverage),
+            Deed::Read(ref reading) => {
+                let text = logs::read(reading, &self.written, &step.manner, self.plant, coverage)?;
+                self.same_buffers(true)?;
+                Ok(Given::Log(text))
+            }
+            Deed::Write(ref writing) => {
+                let text = logs::write(writing, &mut self.written, &step.manner, self.plant, coverage)?;
+                self.same_buffers(true)?;
+                Ok(Given::Log(text))
+            }
             Deed::Audit => self.audit(&manner, coverage),
         }
     }

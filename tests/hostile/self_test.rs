@@ -15,11 +15,14 @@ use crate::shrink::{self, Fails};
 use crate::sights::{Size, SWEEPS};
 use crate::trace::{self, Trace};
 use crate::walks::{Walk, WRONGS};
-use crate::{apart, edges, list_runs, routes, search, values};
+use crate::{apart, edges, list_runs, log_faults, log_runs, routes, search, values};
 use model::{Board, Shape};
 
 /// Calls within which a planted fault must be found.
 const CALLS: u64 = 100_000;
+
+/// Damaged logs within which a fault of logs must be found.
+const LOGS: u64 = 5_000;
 
 /// Steps to which it must shrink.
 const STEPS: usize = 8;
@@ -43,6 +46,7 @@ pub fn all() -> Result<(), String> {
     planted_in(list_runs::lists, &lists.map(|(wrong, ..)| Plant::List(wrong)).collect::<Vec<_>>())?;
     println!("planted faults in lists found in the planned ones");
     planted_walks()?;
+    planted_logs()?;
     canaries()?;
     println!("each canary, changed, is named");
     let required = unreached()?;
@@ -53,7 +57,10 @@ pub fn all() -> Result<(), String> {
 
 /// Gives at which step the fault was found, and how many steps were left.
 fn planted(plant: Plant) -> Result<(usize, usize), String> {
-    let find = || search(&mut Rng::new(7), CALLS, Some(plant), &mut Coverage::new());
+    let find = || match plant {
+        Plant::Log(_) => log_runs::search(&mut Rng::new(7), LOGS, Some(plant), &mut Coverage::new()).map(drop),
+        _ => search(&mut Rng::new(7), CALLS, Some(plant), &mut Coverage::new()),
+    };
     let (fails, (trace, difference)): (Fails, _) = if plant.found_as() == Kind::Signal {
         (apart::ended_by_signal, recorded(find)?)
     } else {
@@ -91,6 +98,31 @@ fn shrunk(plant: Plant, fails: Fails, trace: Trace, difference: Difference) -> R
         None => Ok(left),
         Some((_, other)) => Err(format!("its trace fails without the fault too: {}", other.text)),
     }
+}
+
+/// Faults of logs: each must be found in random runs, and in the planned ones; nothing where what stands in for the library has
+/// no fault.
+fn planted_logs() -> Result<(), String> {
+    let right = Some(Plant::Log(None));
+    let found = log_runs::planned(&mut Rng::new(7), right, &mut Coverage::new()).err();
+    let found = found.or_else(|| log_runs::search(&mut Rng::new(7), LOGS, right, &mut Coverage::new()).err());
+    if let Some(Failure::Run(_, difference)) = found {
+        return Err(format!("logs: a fault is found where nothing is wrong: {difference:?}"));
+    }
+    let mut most = 0;
+    for &(wrong, name, kind) in log_faults::FAULTS {
+        let plant = Plant::Log(Some(wrong));
+        let (_, left) = quietly(|| planted(plant)).map_err(|problem| format!("planted fault '{name}': {problem}"))?;
+        most = most.max(left);
+        if kind != Kind::Signal {
+            quietly(|| planted_in(log_runs::planned, &[plant]))?;
+        }
+    }
+    let faults = log_faults::FAULTS.len();
+    println!(
+        "planted faults in logs: {faults}, each found, shrunk to {most} steps at most, replayed; found in planned ones"
+    );
+    Ok(())
 }
 
 /// Faults in which places a call visits: each must be found wherever it shows, and nothing where nothing is wrong.

@@ -1,7 +1,10 @@
-//! Makes a failing trace small: drops steps by halves and then one by one, likewise the accesses of its lists, then simplifies
-//! how calls are brought, then zeroes the first board piece by piece, all while it still fails in the same way.
+//! Makes a failing trace small: drops steps by halves and then one by one, likewise the accesses of its lists and the bytes of its
+//! logs, then simplifies how calls are brought, then zeroes the first board piece by piece, all while it still fails in the same
+//! way.
 
+use crate::limits::STATE_WORDS;
 use crate::lists::{Item, List};
+use crate::logs::{Piece, Reading, Writing};
 use crate::routes::{Manner, Route};
 use crate::run::{quietly, Difference};
 use crate::trace::{Deed, Trace};
@@ -31,6 +34,7 @@ pub fn shrink(fails: Fails, trace: Trace, difference: Difference) -> (Trace, Dif
     quietly(|| {
         shrinker.drop_steps();
         shrinker.shorten_lists();
+        shrinker.shorten_logs();
         shrinker.simplify_manners();
         shrinker.zero_board();
         shrinker.drop_steps();
@@ -129,6 +133,75 @@ impl Shrinker {
         edit(&mut list);
         let changed = self.list_at(index) != Some(&list);
         changed && self.takes(|trace| trace.steps[index].deed = Deed::List(list))
+    }
+
+    /// Simplifies the pieces of logs, and drops their bytes, by halves and then one by one; then simplifies what is left of them,
+    /// and of entries.
+    fn shorten_logs(&mut self) {
+        for index in 0..self.best.steps.len() {
+            for (bytes, room) in [(1 << 16, 64), (1 << 16, 1), (1, 64), (1, 1)] {
+                if self.takes_reading(index, |reading| reading.pieces = vec![Piece::of(bytes, room)]) {
+                    break;
+                }
+            }
+            for count in (1..8).rev() {
+                self.takes_reading(index, |reading| reading.pieces.truncate(count));
+            }
+            let mut size = self.log_length(index);
+            while size > 0 {
+                let mut at = 0;
+                while at < self.log_length(index) {
+                    let end = (at + size).min(self.log_length(index));
+                    let shorter = |log: &mut Vec<u8>| drop(log.drain(at..end));
+                    if !self.takes_reading(index, |reading| reading.log.iter_mut().for_each(shorter)) {
+                        at = end;
+                    }
+                }
+                size /= 2;
+            }
+            self.takes_reading(index, |reading| (reading.stain, reading.offsets) = (0, [0; 3]));
+            self.takes_writing(index, |writing| (writing.stain, writing.offsets) = (0, [0; 2]));
+            for word in 0..STATE_WORDS {
+                let zero = |words: &mut Vec<u64>| words.iter_mut().skip(word).take(1).for_each(|word| *word = 0);
+                self.takes_reading(index, |reading| {
+                    if !reading.is_fresh() {
+                        zero(&mut reading.state)
+                    }
+                });
+                self.takes_writing(index, |writing| zero(&mut writing.entry));
+            }
+        }
+    }
+
+    fn takes_reading(&mut self, index: usize, edit: impl FnOnce(&mut Reading)) -> bool {
+        self.takes_deed(index, |deed| {
+            if let Deed::Read(reading) = deed {
+                edit(reading)
+            }
+        })
+    }
+
+    fn takes_writing(&mut self, index: usize, edit: impl FnOnce(&mut Writing)) -> bool {
+        self.takes_deed(index, |deed| {
+            if let Deed::Write(writing) = deed {
+                edit(writing)
+            }
+        })
+    }
+
+    fn log_length(&self, index: usize) -> usize {
+        match self.best.steps.get(index).map(|step| &step.deed) {
+            Some(Deed::Read(Reading { log: Some(log), .. })) => log.len(),
+            _ => 0,
+        }
+    }
+
+    /// Takes the trace with a deed edited, if that is another and it fails in the same way.
+    fn takes_deed(&mut self, index: usize, edit: impl FnOnce(&mut Deed)) -> bool {
+        let Some(mut deed) = self.best.steps.get(index).map(|step| step.deed.clone()) else { return false };
+        edit(&mut deed);
+        let changed = self.best.steps[index].deed != deed;
+        changed && self.takes(|trace| trace.steps[index].deed = deed)
     }
 
     fn simplify_manners(&mut self) {

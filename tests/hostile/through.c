@@ -142,3 +142,109 @@ const uint8_t *through_look(oaledva_board *b, bool by_board, size_t line) {
 uint32_t through_look_number(oaledva_board *b, bool by_board, size_t line) {
     return (by_board ? oaledva_board_look_number(b, line) : oaledva_look_number(OALEDVA_LEND(*b), line)).number;
 }
+
+/* ---- logs: kinds and reasons by their names, and the sizes */
+enum { LOG_CONSTANTS = 12 + 6 + 3 };
+
+void through_log_constants(size_t constants[LOG_CONSTANTS]) {
+    static const size_t all[LOG_CONSTANTS] = {
+        OALEDVA_LOG_HEADER, OALEDVA_LOG_USER_ACCESS, OALEDVA_LOG_SUPERVISOR_ACCESS, OALEDVA_LOG_ATTACH,
+        OALEDVA_LOG_DETACH, OALEDVA_LOG_MAP, OALEDVA_LOG_UNMAP, OALEDVA_LOG_PROTECT, OALEDVA_LOG_FLUSH_ALL,
+        OALEDVA_LOG_TAG, OALEDVA_LOG_LOAD_AND_MAP, OALEDVA_LOG_DROP_TAG, OALEDVA_LOG_MISFIT, OALEDVA_LOG_PADDED,
+        OALEDVA_LOG_TENTH_BYTE, OALEDVA_LOG_CUT, OALEDVA_LOG_UNKNOWN_KIND, OALEDVA_LOG_TOO_LARGE,
+        OALEDVA_LOG_ENTRY_WORDS, OALEDVA_LOG_ENTRY_BYTES, OALEDVA_LOG_STATE_WORDS,
+    };
+    for (int i = 0; i < LOG_CONSTANTS; i++) constants[i] = all[i];
+}
+
+void through_log_fresh(oaledva_log_reader *reader) {
+    const oaledva_log_reader fresh = OALEDVA_LOG_READER;
+    *reader = fresh;
+}
+
+const char *through_log_words(uint64_t reason) { return oaledva_log_words(reason); }
+
+/* The functions over each buffer. */
+uint64_t through_log_read(uint64_t *state, size_t state_length, const uint8_t *piece, size_t piece_length,
+                          uint64_t *entries, size_t entries_length) {
+    return oaledva_log_read(state, state_length, piece, piece_length, entries, entries_length);
+}
+
+uint64_t through_log_reason(const uint64_t *state, size_t state_length, uint32_t ended) {
+    return oaledva_log_reason(state, state_length, ended);
+}
+
+uint64_t through_log_place(const uint64_t *state, size_t state_length) {
+    return oaledva_log_place(state, state_length);
+}
+
+typedef struct through_written {
+    uint64_t packed;
+    uint32_t reason, field;
+    size_t bytes;
+} through_written;
+
+through_written through_log_write(const uint64_t *entry, size_t entry_length, uint8_t *bytes, size_t bytes_length) {
+    const oaledva_log_written written = oaledva_log_write(entry, entry_length, bytes, bytes_length);
+    through_written parts = {written.packed, oaledva_log_written_reason(written), oaledva_log_written_field(written),
+                             oaledva_log_written_bytes(written)};
+    return parts;
+}
+
+/* Those over a reader. */
+size_t through_reader_take(oaledva_log_reader *reader, const uint8_t **bytes, size_t *length,
+                           oaledva_log_entry *entries, size_t entries_length) {
+    oaledva_log_piece piece = {*bytes, *length};
+    const size_t given = oaledva_log_reader_take(reader, &piece, entries, entries_length);
+    *bytes = piece.bytes;
+    *length = piece.length;
+    return given;
+}
+
+uint64_t through_reader_reason(const oaledva_log_reader *reader) { return oaledva_log_reader_reason(reader); }
+uint64_t through_reader_end(const oaledva_log_reader *reader) { return oaledva_log_reader_end(reader); }
+uint64_t through_reader_place(const oaledva_log_reader *reader) { return oaledva_log_reader_place(reader); }
+
+/* Those over an entry: its bytes; and the entry of a call made again, by the function for that call. */
+through_written through_log_encode(const oaledva_log_entry *entry, uint8_t *bytes) {
+    const oaledva_log_bytes encoded = oaledva_log_encode(*entry);
+    const uint64_t refused = ((uint64_t)encoded.reason << OALEDVA_LOG_REASON_AT) + encoded.field;
+    through_written parts = {encoded.reason ? refused : encoded.length, encoded.reason, encoded.field, encoded.length};
+    for (size_t i = 0; i < encoded.length; i++) bytes[i] = encoded.bytes[i];
+    return parts;
+}
+
+static oaledva_permission permission(uint64_t write, uint32_t yes) {
+    const oaledva_permission permission = {write ? yes : 0};
+    return permission;
+}
+
+static oaledva_log_entry made(const oaledva_log_entry *entry, uint32_t yes) {
+    const uint64_t *const of = entry->fields;
+    switch (entry->kind) {
+    case OALEDVA_LOG_HEADER: return oaledva_log_header(of[0], of[1], of[2], of[3]);
+    case OALEDVA_LOG_USER_ACCESS:
+        return of[1] ? oaledva_store_call(of[0], (uint32_t)of[2], of[3], (uint32_t)of[4])
+                     : oaledva_load_call(of[0], (uint32_t)of[2], of[3]);
+    case OALEDVA_LOG_SUPERVISOR_ACCESS:
+        return of[0] ? oaledva_supervisor_store_call((uint32_t)of[1], of[2], (uint32_t)of[3])
+                     : oaledva_supervisor_load_call((uint32_t)of[1], of[2]);
+    case OALEDVA_LOG_ATTACH: return oaledva_attach_call(of[0], of[1], of[2], permission(of[3], yes));
+    case OALEDVA_LOG_DETACH: return oaledva_detach_call(of[0], of[1]);
+    case OALEDVA_LOG_MAP: return oaledva_map_call(of[0], of[1], permission(of[2], yes));
+    case OALEDVA_LOG_UNMAP: return oaledva_unmap_call(of[0]);
+    case OALEDVA_LOG_PROTECT: return oaledva_protect_call(of[0], permission(of[1], yes));
+    case OALEDVA_LOG_FLUSH_ALL: return oaledva_flush_all_call();
+    case OALEDVA_LOG_TAG: return oaledva_tag_call(of[0]);
+    case OALEDVA_LOG_LOAD_AND_MAP: return oaledva_load_and_map_call(of[0]);
+    case OALEDVA_LOG_DROP_TAG: return oaledva_drop_tag_call();
+    }
+    return *entry;
+}
+
+void through_log_make(oaledva_log_entry *entry, uint32_t yes) { *entry = made(entry, yes); }
+
+/* A call of a log, made on a board. */
+through_answer through_board_perform(oaledva_board *b, const oaledva_log_entry *entry) {
+    return unpacked(oaledva_board_perform(b, *entry));
+}

@@ -1,6 +1,7 @@
 //! A run as data: the board it starts on, then what is done. It is written as lines of text and read back from them.
 
 use crate::lists::{Item, List};
+use crate::logs::{Piece, Reading, Writing};
 use crate::plant::{self, Plant};
 use crate::routes::{Manner, ROUTES};
 use model::{Board, Call, Shape};
@@ -30,6 +31,10 @@ pub enum Deed {
     Entry {
         page: u64,
     },
+    /// Reads a log in pieces: of no board.
+    Read(Reading),
+    /// Writes an entry of a log: of no board.
+    Write(Writing),
     /// Looks at every physical line and compares with the plain machine's memory; asks for two copies of a line.
     Audit,
 }
@@ -49,7 +54,8 @@ pub struct Trace {
 
 // ----- deeds in words -----
 
-/// A deed's name and its arguments, flags as 0 and 1; those of a list in `list_text`.
+/// A deed's name and its arguments, flags as 0 and 1; those of a list in `list_text`, of logs in `reading_text` and
+/// `writing_text`.
 fn parts(deed: &Deed) -> (&'static str, Vec<(&'static str, u64)>) {
     match *deed {
         Deed::Call(Call::UserAccess { process, store, width, address, value }) => (
@@ -83,25 +89,33 @@ fn parts(deed: &Deed) -> (&'static str, Vec<(&'static str, u64)>) {
         Deed::Look { line } => ("look", vec![("line", line)]),
         Deed::LookNumber { line } => ("look-number", vec![("line", line)]),
         Deed::Entry { page } => ("entry", vec![("page", page)]),
+        Deed::Read(_) => (READ, vec![]),
+        Deed::Write(_) => (WRITE, vec![]),
         Deed::Audit => ("audit", vec![]),
     }
 }
 
 const LIST: &str = "user-accesses";
+const READ: &str = "read-log";
+const WRITE: &str = "write-entry";
+
+/// Numbers with commas between them.
+fn comma(numbers: &[u64]) -> String {
+    numbers.iter().map(|number| format!("{number:#x}")).collect::<Vec<_>>().join(",")
+}
 
 /// A list's arguments. Each access is process, load or store, width, address, value; the words behind the last whole access, if
 /// there are any, are `torn`.
 fn list_text(list: &List) -> String {
     let List { items, torn, answers, stain, offsets } = list;
-    let numbers = |numbers: &[u64]| numbers.iter().map(|number| format!("{number:#x}")).collect::<Vec<_>>().join(",");
     let mut text = format!(" answers={answers} stain={stain:#x} at={},{}", offsets[0], offsets[1]);
     for Item { process, store, width, address, value } in items {
         let fields = [*process, (*store).into(), (*width).into(), (*address).into(), (*value).into()];
-        write!(text, " access={}", numbers(&fields)).expect("text grows");
+        write!(text, " access={}", comma(&fields)).expect("text grows");
     }
     if !torn.is_empty() {
         let words: Vec<u64> = torn.iter().map(|&word| word.into()).collect();
-        write!(text, " torn={}", numbers(&words)).expect("text grows");
+        write!(text, " torn={}", comma(&words)).expect("text grows");
     }
     text
 }
@@ -123,6 +137,62 @@ fn list_of(arguments: &Arguments) -> Result<List, String> {
         list.torn = arguments.numbers("torn")?.into_iter().map(word).collect::<Result<_, _>>()?;
     }
     Ok(list)
+}
+
+/// A log to be read: its bytes two digits each, or that it was written; a piece by its bytes, the entries for which there is
+/// room, and the words more.
+fn reading_text(reading: &Reading) -> String {
+    let Reading { state, log, pieces, stain, offsets: [first, second, third] } = reading;
+    let log =
+        log.as_ref().map_or(WRITTEN.into(), |log| log.iter().map(|byte| format!("{byte:02x}")).collect::<String>());
+    let piece = |piece: &Piece| format!("{}/{}/{}", piece.bytes, piece.room, piece.torn);
+    let pieces = pieces.iter().map(piece).collect::<Vec<_>>().join(",");
+    let state = if reading.is_fresh() { FRESH.into() } else { comma(state) };
+    format!(" at={first},{second},{third} stain={stain:#x} state={state} pieces={pieces} log={log}")
+}
+
+const WRITTEN: &str = "written";
+const FRESH: &str = "fresh";
+
+fn reading_of(arguments: &Arguments) -> Result<Reading, String> {
+    let mut reading = Reading::of(Vec::new(), Vec::new());
+    let at: [u64; 3] = arguments.numbers("at")?[..].try_into().map_err(|_| "'at=' must have three numbers")?;
+    reading.offsets = at.map(|offset| offset as usize);
+    reading.stain = arguments.number("stain")?;
+    if arguments.first("state")? != FRESH {
+        reading.state = arguments.numbers("state")?;
+    }
+    for text in arguments.first("pieces")?.split(',').filter(|text| !text.is_empty()) {
+        let parts: Result<Vec<u64>, String> = text.split('/').map(number).collect();
+        let [bytes, room, torn]: [u64; 3] = parts?.try_into().map_err(|_| format!("'{text}' is no piece"))?;
+        reading.pieces.push(Piece { bytes: bytes as usize, room: room as usize, torn: torn as usize });
+    }
+    reading.log = match arguments.first("log")? {
+        WRITTEN => None,
+        digits => Some(bytes_of(digits)?),
+    };
+    Ok(reading)
+}
+
+/// Bytes of two digits each.
+fn bytes_of(digits: &str) -> Result<Vec<u8>, String> {
+    let byte = |at: usize| digits.get(at..at + 2).and_then(|two| u8::from_str_radix(two, 16).ok());
+    (0..digits.len()).step_by(2).map(byte).collect::<Option<_>>().ok_or(format!("'{digits}' are no bytes"))
+}
+
+fn writing_text(writing: &Writing) -> String {
+    let Writing { entry, room, stain, offsets: [first, second] } = writing;
+    format!(" at={first},{second} stain={stain:#x} room={room} entry={}", comma(entry))
+}
+
+fn writing_of(arguments: &Arguments) -> Result<Writing, String> {
+    let at: [u64; 2] = arguments.numbers("at")?[..].try_into().map_err(|_| "'at=' must have two numbers")?;
+    Ok(Writing {
+        entry: arguments.numbers("entry")?,
+        room: arguments.number("room")? as usize,
+        stain: arguments.number("stain")?,
+        offsets: at.map(|offset| offset as usize),
+    })
 }
 
 fn deed_of(name: &str, arguments: &Arguments) -> Result<Deed, String> {
@@ -161,6 +231,8 @@ fn deed_of(name: &str, arguments: &Arguments) -> Result<Deed, String> {
         "look" => Deed::Look { line: get("line")? },
         "look-number" => Deed::LookNumber { line: get("line")? },
         "entry" => Deed::Entry { page: get("page")? },
+        READ => Deed::Read(reading_of(arguments)?),
+        WRITE => Deed::Write(writing_of(arguments)?),
         "audit" => Deed::Audit,
         other => return Err(format!("no call is named '{other}'")),
     })
@@ -174,10 +246,12 @@ pub fn step_text(step: &Step) -> String {
     for (key, value) in arguments {
         write!(text, " {key}={value:#x}").expect("text grows");
     }
-    if let Deed::List(list) = &step.deed {
-        text += &list_text(list);
+    match &step.deed {
+        Deed::List(list) => text + &list_text(list),
+        Deed::Read(reading) => text + &reading_text(reading),
+        Deed::Write(writing) => text + &writing_text(writing),
+        _ => text,
     }
-    text
 }
 
 /// The name that a table gives to a value.
@@ -263,9 +337,9 @@ impl<'a> Arguments<'a> {
     }
 }
 
-/// Numbers with commas between them.
+/// Numbers with commas between them, or none.
 fn numbers(text: &str) -> Result<Vec<u64>, String> {
-    text.split(',').map(number).collect()
+    text.split(',').filter(|text| !text.is_empty()).map(number).collect()
 }
 
 pub fn number(text: &str) -> Result<u64, String> {

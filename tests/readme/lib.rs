@@ -1,5 +1,5 @@
 // The Rust programs of the READMEs: build.rs has put each into a module of its own, with a test that runs it. And README's
-// tables of limits and of marks, against the crate's and the header's.
+// tables of limits, of marks and of reasons, against the crate's and the header's.
 #![deny(warnings)]
 
 #[cfg(test)]
@@ -38,5 +38,16 @@ fn marks_are_the_crate_s_and_the_header_s() {
         let in_c = rows.filter_map(|row| row.strip_suffix(&ends)?.rsplit_once('`')).map(|(_, name)| name).next();
         let name = in_c.unwrap_or_else(|| panic!("README.md has no row {begins}...{ends}"));
         assert!(header.contains(&format!("\n    {name} = {number}")), "README.md names mark {number} {name} in C");
+    }
+}
+
+/// But for the one that is no fault of a log.
+#[test]
+fn reasons_are_the_crate_s() {
+    use oaledva::log::Reason;
+    let readme = include_str!("../../README.md");
+    for reason in (2..=6).map(|number| Reason::of(number).unwrap()) {
+        let row = format!("| {} | ", reason.words());
+        assert!(readme.lines().any(|line| line.starts_with(&row)), "README.md has no row {row}");
     }
 }

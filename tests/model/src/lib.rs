@@ -5,10 +5,14 @@
 //! * [`Board`]  the machine with its cache. [`Board::step`] also gives the [`Event`] for coverage; [`Board::list`], which does
 //!   many user accesses, gives one for each.
 //! * [`Plain`]  the machine without a cache.
+//! * [`log`]    the log of calls (CR 1); [`samples`] makes the sample logs of `examples/logs`.
 //!
 //! Form of each call: first the questions, by rising number (`ask(n, refused_if)?`), none of
 //! which changes anything; only then the changes. So "the lowest that applies is given" and
 //! "no byte, record or tag changed" can be read off the text.
+
+pub mod log;
+pub mod samples;
 
 // ---------------------------------------------------------------------------------------------
 // The numbers of 01
