@@ -10,7 +10,32 @@ ghost use Rattle.log_entries.specs.Enters.{codeOf, enteredOf, EnteredFit
 use log_numbers::FIELD;
 use log_numbers::KIND;
 
-// The kinds of calls are 1 to 11; the header counts as a kind 0.
+// The kinds of entries. The header counts as one, whose number isn't written.
+pub const HEADER: u64 = 0;
+
+pub const USER_ACCESS: u64 = 1;
+
+pub const SUPERVISOR_ACCESS: u64 = 2;
+
+pub const ATTACH: u64 = 3;
+
+pub const DETACH: u64 = 4;
+
+pub const MAP: u64 = 5;
+
+pub const UNMAP: u64 = 6;
+
+pub const PROTECT: u64 = 7;
+
+pub const FLUSH_ALL: u64 = 8;
+
+pub const TAG: u64 = 9;
+
+pub const LOAD_AND_MAP: u64 = 10;
+
+pub const DROP_TAG: u64 = 11;
+
+// They end here.
 pub const KINDS: u64 = 12;
 
 // No kind has more fields.
@@ -112,7 +137,7 @@ const FIELDS: [u8; 60] = [
 // How many fields each kind has.
 const COUNTS: [usize; 12] = [4, 5, 4, 4, 2, 3, 1, 2, 0, 1, 1, 0];
 
-const ANY_MOST: u64 = 18446744073709551615;
+const ANY_MOST: u64 = u64::MAX;
 
 // The most that a number below 2^32 is.
 pub const WORD_MOST: u64 = 4294967295;

@@ -4,12 +4,10 @@ ghost use mathlib.Core.Path.{_≡_};
 ghost use Prim.Native.Nat.{_+_, _≤_};
 ghost use lib.ListN.{length};
 ghost use Rattle.log_quick.specs.Quick.{NumberAt, Ended, UserIsAt};
+use log_entries::USER_ACCESS;
 use log_entries::WORD_MOST;
 use log_entries::most_value;
 use log_numbers::GROUP;
-
-// The kind of a user access.
-pub const USER: u64 = 1;
 
 // A number, and how many bytes it has; 0 bytes if it isn't plain.
 struct Number {
@@ -104,7 +102,7 @@ pub fn user_at(piece: &[u8], from: usize) -> UserAt
     requires { ⌜ from + 18 ≤ length (now piece) ⌝ }
     ensures { λ r. ⌜ UserIsAt (now (piece .entry)) from r ⌝ }
 {
-    if wide(piece[from]) != USER {
+    if wide(piece[from]) != USER_ACCESS {
         return not_plain();
     }
     let p = number_at(piece, from + 1);

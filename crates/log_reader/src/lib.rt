@@ -13,10 +13,11 @@ ghost use Rattle.log_reader.specs.Readers.{stateOf, Readable, stepOf, pu
 use log_entries::ENTRY_WORDS;
 use log_entries::Entered;
 use log_entries::Entry;
+use log_entries::HEADER;
+use log_entries::USER_ACCESS;
 use log_numbers::CUT;
 use log_numbers::NONE;
 use log_numbers::Taken;
-use log_quick::USER;
 use log_quick::USER_BYTES;
 
 // Where a reader stands: the bytes taken; the groups of the number that is being read, and what they are worth; the entry that is
@@ -51,7 +52,7 @@ pub fn fresh_reader() -> Reader
         groups: 0,
         sum: 0,
         count: 1,
-        entry: log_entries::of_kind(0),
+        entry: log_entries::of_kind(HEADER),
         reason: NONE,
     }
 }
@@ -245,7 +246,7 @@ fn one_turn(x: Turn, piece: &[u8], entries: &mut [u64]) -> Turn
             put_six(
                 entries,
                 at,
-                USER,
+                USER_ACCESS,
                 u.process,
                 u.store,
                 u.width,

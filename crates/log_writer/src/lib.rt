@@ -8,6 +8,7 @@ ghost use Rattle.log_numbers.specs.Numbers.{bytesOf};
 ghost use Rattle.log_entries.specs.Entries.{fieldsByKind, fiveOf};
 ghost use Rattle.log_writer.specs.Writing.{firstWrong, numbersOf, entryBytes, written, writeEntry};
 use log_entries::Entry;
+use log_entries::HEADER;
 use log_entries::KINDS;
 use log_entries::MOST_FIELDS;
 use log_entries::field_of;
@@ -62,7 +63,7 @@ fn put_numbers(e: Entry, bytes: &mut [u8]) -> usize
     ensures { λ r. ⌜ (now (bytes .exit) ≡ splice (now (bytes .entry)) 0 (bytesOf (numbersOf (e .kind) (fiveOf e)))) × (r ≡ length (bytesOf (numbersOf (e .kind) (fiveOf e)))) × (r ≤ entryBytes) ⌝ }
 {
     let n = log_entries::fields_of(e.kind);
-    if e.kind == 0 {
+    if e.kind == HEADER {
         return put_fields(e, n, bytes, 0);
     }
     let at = put_number(e.kind, bytes, 0);

@@ -24,10 +24,10 @@ use log_reader::Reader;
 const READER_WORDS: usize = 11;
 
 // What a call gives that reads nothing, since its buffers don't fit.
-const NO_ENTRIES: u64 = 18446744073709551615;
+const NO_ENTRIES: u64 = u64::MAX;
 
 // A log is shorter than 2^64 bytes.
-const LAST_BYTE: u64 = 18446744073709551615;
+const LAST_BYTE: u64 = u64::MAX;
 
 // Where the reason stands in what a call gives that writes.
 const REASON_UNIT: u64 = 4294967296;

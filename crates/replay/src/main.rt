@@ -16,8 +16,20 @@ use board::Shape;
 use libc::STDERR_FILENO;
 use libc::STDIN_FILENO;
 use libc::STDOUT_FILENO;
+use log_entries::ATTACH;
+use log_entries::DETACH;
+use log_entries::DROP_TAG;
 use log_entries::ENTRY_WORDS;
 use log_entries::Entry;
+use log_entries::FLUSH_ALL;
+use log_entries::HEADER;
+use log_entries::MAP;
+use log_entries::PROTECT;
+use log_entries::SUPERVISOR_ACCESS;
+use log_entries::TAG;
+use log_entries::UNMAP;
+use log_entries::USER_ACCESS;
+use log_entries::WORD_MOST;
 use log_numbers::CUT;
 use log_numbers::FIELD;
 use log_numbers::KIND;
@@ -49,33 +61,10 @@ const PIECE: usize = 4096;
 const ENTRIES: usize = ENTRY_WORDS * PIECE;
 
 // No log has more bytes.
-const MOST_BYTES: u64 = 18446744073709551615;
+const MOST_BYTES: u64 = u64::MAX;
 
 // Widths, values and effective addresses are below this.
-const WORD_END: u64 = 4294967296;
-
-// The kinds of entries. What is left is load-and-map, 10.
-const HEADER: u64 = 0;
-
-const USER_ACCESS: u64 = 1;
-
-const SUPERVISOR_ACCESS: u64 = 2;
-
-const ATTACH: u64 = 3;
-
-const DETACH: u64 = 4;
-
-const MAP: u64 = 5;
-
-const UNMAP: u64 = 6;
-
-const PROTECT: u64 = 7;
-
-const FLUSH_ALL: u64 = 8;
-
-const TAG: u64 = 9;
-
-const DROP_TAG: u64 = 11;
+const WORD_END: u64 = WORD_MOST + 1;
 
 // One more reason for which a log is refused: its board is too large for this program.
 const LARGE: u64 = 7;
