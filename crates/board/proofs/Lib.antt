@@ -1,4 +1,5 @@
 pub mod Bools
+pub mod Searches
 pub mod Lists
 pub mod Shapes
 pub mod Marks

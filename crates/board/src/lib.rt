@@ -1,16 +1,17 @@
 // 01, "The board": F, U, P and L, their limits and the lengths of the buffers (number 1), and what calls and searches give.
 ghost use mathlib.Core.Path.{_≡_};
-ghost use Prim.Native.Nat.{_≤_};
+ghost use Prim.Native.Nat.{_*_, _/_, _≤_, _<_};
 ghost use Rattle.board.specs.Answers.{answer, markNoAccess, markOf};
 ghost use Rattle.board.specs.Lists.{bit};
-ghost use Rattle.board.specs.Shapes.{limitsHold, lengthsAgree, fitsShape, maxFrames, maxProcesses, maxLines};
+ghost use Rattle.board.specs.Shapes.{editionHolds, limitsHold, matricesOf, lengthsAgree, fitsShape, maxFrames, maxProcesses, maxLines};
 
-// The numbers F, U, P and L of a board.
+// The numbers F, U, P and L of a board, and the lines in a set: 1 in 01's edition, 4 in that of sets of four (CR 4).
 pub struct Shape {
     pub frames: usize,
     pub uncached: usize,
     pub processes: usize,
     pub lines: usize,
+    pub ways: usize,
 }
 
 // The pending tag: a line name, if one is set.
@@ -92,6 +93,9 @@ pub const MAX_PROCESSES: usize = 64;
 
 pub const MAX_LINES: usize = 65536;
 
+// The lines in a set of four.
+pub const SET_LINES: usize = 4;
+
 pub const PROCESS_SLOTS: usize = 512;
 
 pub const RECORD_WORDS: usize = 2;
@@ -110,16 +114,38 @@ pub fn bit_of(b: bool) -> u64
     if b { 1 } else { 0 }
 }
 
+// A set has one line; or four, and then there are four lines at least.
+fn edition_holds(s: Shape) -> bool
+    ensures { λ r. ⌜ r ≡ editionHolds s ⌝ }
+{
+    if s.ways == SET_LINES {
+        return SET_LINES <= s.lines;
+    }
+    s.ways == 1
+}
+
 // The numbers are within their limits.
 fn limits_hold(s: Shape) -> bool
     ensures { λ r. ⌜ r ≡ limitsHold s ⌝ }
 {
     let ones = usize::count_ones(s.lines);
+    let edition = edition_holds(s);
     (1 <= s.frames)
         & ((s.frames <= MAX_FRAMES)
             & ((s.uncached <= s.frames)
                 & ((1 <= s.processes)
-                    & ((s.processes <= MAX_PROCESSES) & ((s.lines <= MAX_LINES) & (ones == 1))))))
+                    & ((s.processes <= MAX_PROCESSES)
+                        & ((s.lines <= MAX_LINES) & ((ones == 1) & edition))))))
+}
+
+// How many matrices of uses there are: one for each set of four.
+fn matrices(s: Shape) -> usize
+    ensures { λ r. ⌜ r ≡ matricesOf s ⌝ }
+{
+    if s.ways == SET_LINES {
+        return s.lines / SET_LINES;
+    }
+    0
 }
 
 // The buffers have the lengths that the numbers say.
@@ -130,14 +156,17 @@ fn lengths_agree(
     records: usize,
     cache: usize,
     memory: usize,
+    uses: usize,
 ) -> bool
     requires { ⌜ (s .frames ≤ maxFrames) × (s .processes ≤ maxProcesses) × (s .lines ≤ maxLines) ⌝ }
-    ensures { λ r. ⌜ r ≡ lengthsAgree s slots words records cache memory ⌝ }
+    ensures { λ r. ⌜ r ≡ lengthsAgree s slots words records cache memory uses ⌝ }
 {
+    let matrices = matrices(s);
     (slots == s.processes * PROCESS_SLOTS)
         & ((words == s.frames)
             & ((records == RECORD_WORDS * s.lines)
-                & ((cache == LINE_BYTES * s.lines) & (memory == PAGE_BYTES * s.frames))))
+                & ((cache == LINE_BYTES * s.lines)
+                    & ((memory == PAGE_BYTES * s.frames) & (uses == matrices)))))
 }
 
 // Number 1 does not apply.
@@ -148,11 +177,12 @@ pub fn fits(
     records: usize,
     cache: usize,
     memory: usize,
+    uses: usize,
 ) -> bool
-    ensures { λ r. ⌜ r ≡ fitsShape s slots words records cache memory ⌝ }
+    ensures { λ r. ⌜ r ≡ fitsShape s slots words records cache memory uses ⌝ }
 {
     if limits_hold(s) {
-        return lengths_agree(s, slots, words, records, cache, memory);
+        return lengths_agree(s, slots, words, records, cache, memory, uses);
     }
     false
 }

@@ -17,6 +17,7 @@ use Rattle.board.specs.Answers.{markOf}
 use Rattle.board.specs.declared.Answer.{Answer}
 use Rattle.board.specs.declared.Shape.{Shape}
 use Rattle.board.proofs.Bools.{and-left, and-right}
+use Rattle.lines.specs.Victims.{Uses}
 use Rattle.stores.specs.Stores.{Store}
 use Rattle.stores.specs.declared.Access.{Access}
 use Rattle.reach.specs.declared.Way.{Way}
@@ -56,35 +57,37 @@ small-mark true back = omega arith
 small-mark false true = omega arith
 small-mark false false = omega arith
 
-small-way : (s : Shape) (name offset : ℕ) (a : Access) (b : Store) (w : Way) → Small (accessedBy s name offset a b w .answer)
+small-way : (s : Shape) (to name offset : ℕ) (a : Access) (b : Store) (w : Way) → Small (accessedBy s to name offset a b w .answer)
 unfolding accessedBy performedOn
-small-way s name offset a b (Held i write) = record { number-below = omega arith; mark-below = small-mark true false }
-small-way s name offset a b (InMemory line write) = record { number-below = omega arith; mark-below = small-mark false _ }
-small-way s name offset a b Missing = record { number-below = omega arith; mark-below = omega arith }
+small-way s to name offset a b (Held i write) = record { number-below = omega arith; mark-below = small-mark true false }
+small-way s to name offset a b (InMemory line write) = record { number-below = omega arith; mark-below = small-mark false _ }
+small-way s to name offset a b Missing = record { number-below = omega arith; mark-below = omega arith }
 
-small-line : (s : Shape) (words : List ℕ) (g : Global) (a : Access) (b : Store) → Small (accessed s words g a b .answer)
+small-line : (s : Shape) (words : List ℕ) (g : Global) (a : Access) (b : Store) (uses : Uses)
+    → Small (accessed s words g a b uses .reached .answer)
 unfolding accessed
-small-line s words g a b = small-way s _ _ a b _
+small-line s words g a b uses = small-way s _ _ _ a b _
 
 small-memory : (p : Physical) (store : Bool) (width value : ℕ) (b : Store) → Small (memoryAccess p (record { store = store; width = width; value = value }) b .answer)
 unfolding memoryAccess
 small-memory p true width value b = record { number-below = omega arith; mark-below = omega arith }
 small-memory p false width value b = record { number-below = omega arith; mark-below = omega arith }
 
-small-region : (s : Shape) (words : List ℕ) (a : Access) (g : Global) (b : Store) (region : Region) → Small (supervisorDone s words a g b region .answer)
+small-region : (s : Shape) (words : List ℕ) (a : Access) (g : Global) (b : Store) (uses : Uses) (region : Region)
+    → Small (supervisorDone s words a g b uses region .reached .answer)
 unfolding supervisorDone
-small-region s words a g b Uncached = small-memory (physicalOf g) (a .store) (a .width) (a .value) b
-small-region s words a g b Cached = small-line s words g a b
-small-region s words a g b PageTable = record { number-below = omega arith; mark-below = omega arith }
-small-region s words a g b Ordinary = small-line s words g a b
+small-region s words a g b uses Uncached = small-memory (physicalOf g) (a .store) (a .width) (a .value) b
+small-region s words a g b uses Cached = small-line s words g a b uses
+small-region s words a g b uses PageTable = record { number-below = omega arith; mark-below = omega arith }
+small-region s words a g b uses Ordinary = small-line s words g a b uses
 
 small-user : (s : Shape) (b : Board) (process : ℕ) (a : Access) (e : Effective) → Small (userAccess s b process a e .answer)
 unfolding userAccess userTable lowRows
-small-user s b process a e = small-table b (userTable s b process a e) _ refl (small-line s _ _ a (b .store))
+small-user s b process a e = small-table b (userTable s b process a e) _ refl (small-line s _ _ a (b .store) (b .uses))
 
 small-supervisor : (s : Shape) (b : Board) (a : Access) (g : Global) → Small (supervisorAccess s b a g .answer)
 unfolding supervisorAccess supervisorTable lowRows
-small-supervisor s b a g = small-table b (supervisorTable s b a g) _ refl (small-region s (b .words) a g (b .store) (regionOf g))
+small-supervisor s b a g = small-table b (supervisorTable s b a g) _ refl (small-region s (b .words) a g (b .store) (b .uses) (regionOf g))
 
 -- a list's own answer
 small-list : (s : Shape) (b : Board) (accesses : List ℕ) (answers : List Answer) → Small (userAccesses s b accesses answers .answer)

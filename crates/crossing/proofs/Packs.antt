@@ -4,13 +4,16 @@ use mathlib.Core.Path.{_≡_, refl, _∙_, sym, ap}
 use mathlib.Core.Bool.{Bool, true, false, not, cond}
 use mathlib.Core.List.{List}
 use lib.Dec.{eqb}
+use lib.ListN.{length}
 use native.Mathlib.Omega.{arith}
 use borrow.Author.Tests.{ne-eqb}
 use Rattle.board.specs.Lists.{isYes}
 use Rattle.board.specs.declared.Answer.{Answer}
 use Rattle.board.specs.declared.Pending.{Pending}
-use Rattle.machine.specs.Boards.{Board, board, Outcome, outcome}
-use Rattle.machine.specs.Lists.{Answered, Listed, listed}
+use Rattle.machine.specs.Boards.{Board, setsBoard, board, Outcome, outcome}
+use Rattle.machine.specs.Lists.{Answered, answered, Listed, listed}
+use Rattle.lines.specs.Victims.{Uses}
+use Rattle.machine.proofs.Fits.{no-uses, no-matrices}
 use Rattle.crossing.specs.Packing.{markUnit, roomUnit, numberUnit, byteEnd, packed, unpacked, Small, NothingLost, wordAfter, tagOf}
 
 pub packs : (a : Answer) → Small a → a .value < markUnit → unpacked (a .number * numberUnit + a .mark * markUnit + a .value) ≡ a
@@ -51,9 +54,19 @@ pub crosses-list : (a : Answer) (left : Answered) (o : Listed) (r : ℕ) → lis
 crosses-list a left o r e f = rw f e
 
 -- the same where the tag crosses as two numbers
-pub crosses-tagged : (a : Answer) (slots w r c m : List ℕ) (tag : Pending) (o : Outcome) (n set name : ℕ) → outcome a (board slots w r c m tag) ≡ o
-    → unpacked n ≡ a → not (eqb set 0) ≡ tag .set → name ≡ tag .name → outcome (unpacked n) (board slots w r c m (tagOf set name)) ≡ o
-crosses-tagged a slots w r c m tag o n set name e f g h = rw (f, g, h) e
+pub crosses-tagged : (a : Answer) (slots w r c m : List ℕ) (u : Uses) (tag : Pending) (o : Outcome) (n set name : ℕ)
+    → outcome a (setsBoard slots w r c m u tag) ≡ o → unpacked n ≡ a → not (eqb set 0) ≡ tag .set → name ≡ tag .name
+    → outcome (unpacked n) (setsBoard slots w r c m u (tagOf set name)) ≡ o
+crosses-tagged a slots w r c m u tag o n set name e f g h = rw (f, g, h) e
+
+-- and where no matrices were lent: none come back
+module _ (a : Answer) (slots w r c m : List ℕ) (u : Uses) (tag : Pending) (n : ℕ) (z : length u ≡ 0) (f : unpacked n ≡ a) where
+  pub crosses-bare : (o : Outcome) → outcome a (setsBoard slots w r c m u tag) ≡ o → outcome (unpacked n) (board slots w r c m tag) ≡ o
+  crosses-bare o e = rw f (no-matrices slots w r c m u tag a o z e)
+
+  pub crosses-list-bare : (answers : List Answer) (o : Listed) → listed a (answered answers (setsBoard slots w r c m u tag)) ≡ o
+      → listed (unpacked n) (answered answers (board slots w r c m tag)) ≡ o
+  crosses-list-bare answers o e = rw (f, ← no-uses u z) e
 
 -- the returns of word_after
 pub word-given : (before : ℕ) (set : Bool) → set ≡ true → (before ≡ 0 → ⊥) → before ≡ wordAfter before set

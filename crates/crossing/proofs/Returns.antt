@@ -23,6 +23,7 @@ readOff before r c = record {
   records = c .store .records;
   cache = c .store .cache;
   memory = c .store .memory;
+  uses = c .uses;
   set = wordAfter before (c .tag .set);
   name = c .tag .name;
 }
@@ -53,9 +54,9 @@ list-second Contract one r q xs ys c d p h =
 return-again : (before : ℕ) (x : Returned) → FlagKept before (x .set) → x ≡ readOff before (unpacked (x .result)) (boardOf x)
 unfolding readOff
 return-again before x h =
-    ap (λ (q : ℕ). record { result = q; slots = x .slots; words = x .words; records = x .records; cache = x .cache; memory = x .memory; set = x .set; name = x .name })
+    ap (λ (q : ℕ). record { result = q; slots = x .slots; words = x .words; records = x .records; cache = x .cache; memory = x .memory; uses = x .uses; set = x .set; name = x .name })
     (sym (nothing-lost .numbers (x .result)))
-    ∙ ap (λ (q : ℕ). record { result = packed (unpacked (x .result)); slots = x .slots; words = x .words; records = x .records; cache = x .cache; memory = x .memory; set = q; name = x .name }) h
+    ∙ ap (λ (q : ℕ). record { result = packed (unpacked (x .result)); slots = x .slots; words = x .words; records = x .records; cache = x .cache; memory = x .memory; uses = x .uses; set = q; name = x .name }) h
 
 second : (Contract : Answer → Board → Type 0) → Determines Contract → (before : ℕ) (x y : Returned)
     → Meets Contract before x → Meets Contract before y → x ≡ y

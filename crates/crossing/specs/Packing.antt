@@ -9,7 +9,6 @@ use mathlib.Core.List.{List, map}
 use Rattle.board.specs.Lists.{isYes}
 use Rattle.board.specs.declared.Answer.{Answer}
 use Rattle.board.specs.declared.Pending.{Pending}
-use Rattle.board.specs.declared.Shape.{Shape}
 use Rattle.stores.specs.declared.Access.{Access}
 
 -- where the mark stands, the room above it, and the number
@@ -55,12 +54,9 @@ pub record NothingLost : Type 0 where
 unfoldable pub wordAfter : ℕ → Bool → ℕ
 wordAfter before set = cond set (cond (isYes before) before 1) 0
 
--- a pending tag, a shape and an access by their numbers
+-- a pending tag and an access by their numbers
 abbrev pub tagOf : ℕ → ℕ → Pending
 tagOf set name = record { set = isYes set; name = name }
-
-abbrev pub shape : ℕ → ℕ → ℕ → ℕ → Shape
-shape frames uncached processes lines = record { frames = frames; uncached = uncached; processes = processes; lines = lines }
 
 abbrev pub access : ℕ → ℕ → ℕ → Access
 access store width value = record { store = isYes store; width = width; value = value }

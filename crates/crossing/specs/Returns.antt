@@ -2,16 +2,17 @@
 -- No second return meets one (of a list: no second answers' buffer either), and a call that leaves the tag leaves the caller's two words.
 use Prim.Native.Nat.{ℕ}
 use mathlib.Core.Path.{_≡_}
-use mathlib.Core.List.{List}
+use mathlib.Core.List.{List, []}
 use denote.Ref.{RefT, now}
 use denote.Triple.Both.{Both}
 use Rattle.board.specs.Lists.{isYes}
 use Rattle.board.specs.declared.Answer.{Answer}
 use Rattle.board.specs.declared.Pending.{Pending}
+use Rattle.lines.specs.Victims.{Uses}
 use Rattle.stores.specs.Lent.{Buffer}
-use Rattle.machine.specs.Boards.{Board, board}
+use Rattle.machine.specs.Boards.{Board, setsBoard}
 use Rattle.machine.specs.Lists.{Answered, answered}
-use Rattle.machine.specs.Contracts.{Determines}
+use Rattle.machine.specs.Contracts.{LentUses, Determines}
 use Rattle.crossing.specs.Packing.{unpacked, unpackedAll, wordAfter, tagOf}
 
 -- a word that a call is lent, and the tag that the caller's two words are before the call
@@ -33,23 +34,32 @@ pub record Returned : Type 0 where
   pub records : List ℕ
   pub cache : List ℕ
   pub memory : List ℕ
+  pub uses : Uses
   pub set : ℕ
   pub name : ℕ
 
 abbrev pub boardOf : Returned → Board
-boardOf x = board (x .slots) (x .words) (x .records) (x .cache) (x .memory) (tagOf (x .set) (x .name))
+boardOf x = setsBoard (x .slots) (x .words) (x .records) (x .cache) (x .memory) (x .uses) (tagOf (x .set) (x .name))
 
-abbrev pub returned : ℕ → Buffer → Buffer → Buffer → Buffer → Buffer → Word → Word → Returned
-returned r slots words records cache memory set name = record {
+abbrev pub returnedWith : Uses → ℕ → Buffer → Buffer → Buffer → Buffer → Buffer → Word → Word → Returned
+returnedWith uses r slots words records cache memory set name = record {
   result = r;
   slots = now (slots .exit);
   words = now (words .exit);
   records = now (records .exit);
   cache = now (cache .exit);
   memory = now (memory .exit);
+  uses = uses;
   set = now (set .exit);
   name = now (name .exit);
 }
+
+-- in 01's edition, which has no matrices, and with the matrices lent
+abbrev pub returned : ℕ → Buffer → Buffer → Buffer → Buffer → Buffer → Word → Word → Returned
+returned = returnedWith []
+
+abbrev pub setsReturned : ℕ → Buffer → Buffer → Buffer → Buffer → Buffer → LentUses → Word → Word → Returned
+setsReturned r slots words records cache memory uses set name = returnedWith (now (uses .exit)) r slots words records cache memory set name
 
 -- it meets the contract of a call that may change the tag: the call's own, and the word of the flag, which was `before`
 abbrev pub Meets : (Answer → Board → Type 0) → ℕ → Returned → Type 0

@@ -1,7 +1,7 @@
 -- A run, call by call: its answers, its replies, the board after it, and what its slots pass at some moment of it.
 use Prim.Native.Nat.{ℕ, zero, suc, _+_, _*_, _<_}
 use mathlib.Core.Logic.{_≢_}
-use mathlib.Core.Path.{_≡_, refl}
+use mathlib.Core.Path.{_≡_, refl, ap}
 use mathlib.Core.Bool.{Bool, true, false, _||_, cond}
 use mathlib.Core.List.{List, [], _∷_, map as each}
 use native.Mathlib.Omega.{arith}
@@ -18,9 +18,9 @@ use Rattle.slots.specs.Slots.{slotIndex}
 use Rattle.lines.specs.Records.{lineAt, noLine}
 use Rattle.lines.specs.Holds.{holdsLine, holdsAt}
 use Rattle.stores.specs.Stores.{store, mustWriteBack, writtenBack}
-use Rattle.machine.specs.Boards.{Board, outcome}
+use Rattle.machine.specs.Boards.{Board, Outcome, outcome}
 use Rattle.store_laws.proofs.Zeroed.{zeros-at}
-use Rattle.promises.specs.Runs.{Call, user, supervisor, step, after, Reply, reply, replies}
+use Rattle.promises.specs.Runs.{ran, gained, someMoment, Call, user, supervisor, step, next, after, Reply, reply, replies}
 use Rattle.promises.specs.Demand3.{someSlot, atSomeMoment, repliesTo}
 use Rattle.example_runs.specs.Examples.{answers}
 
@@ -32,11 +32,11 @@ unfolding lineAt
 fresh-line count i = rw (zeros-at count (recordWords * i), zeros-at count (recordWords * i + 1))
 
 -- such a record has nothing to write back
-pub none-written : (s : Shape) (i : ℕ) (r c m : List ℕ) → lineAt r i ≡ noLine → writtenBack 1 s i (store r c m) ≡ store r c m
+pub none-written : (s : Shape) (i : ℕ) (r c m : List ℕ) → lineAt r i ≡ noLine → writtenBack s i (store r c m) ≡ store r c m
 unfolding holdsLine holdsAt writtenBack
 none-written s i r c m h = rw h
 
-pub none-marked : (s : Shape) (i : ℕ) (r : List ℕ) → lineAt r i ≡ noLine → markOf false (mustWriteBack 1 s r i) ≡ markRefilled
+pub none-marked : (s : Shape) (i : ℕ) (r : List ℕ) → lineAt r i ≡ noLine → markOf false (mustWriteBack s r i) ≡ markRefilled
 unfolding holdsLine holdsAt markOf
 none-marked s i r h = rw h
 
@@ -45,6 +45,10 @@ none-marked s i r h = rw h
 -- a call on the board
 pub record Does (s : Shape) (b : Board) (k : Call) (a : Answer) (c : Board) : Type 0 where
   pub does : step s b k ≡ outcome a c
+
+-- the board that it leaves
+does-leave : {s : Shape} {b c : Board} {k : Call} {a : Answer} → Does s b k a c → next s b k ≡ c
+does-leave x = ap (λ (o : Outcome). o .after) (x .does)
 
 -- a list of calls, call by call
 infixr 5 _then_
@@ -67,14 +71,14 @@ module _ {s : Shape} where
   ran-answers (x then r) = let e = x .does in rw (e, ran-answers r)
 
   pub ran-after : {b c : Board} {ks : List Call} {l : List Answer} → Ran s b ks l c → after s b ks ≡ c
-  unfolding after
+  unfolding ran
   ran-after ended = refl
-  ran-after (x then r) = let e = x .does in rw e (ran-after r)
+  ran-after (x then r) = let e = does-leave x in rw e (ran-after r)
 
   pub ran-replies : {b c : Board} {ks : List Call} {l : List Answer} → Ran s b ks l c → replies s b ks ≡ each reply l
-  unfolding replies
+  unfolding gained
   ran-replies ended = refl
-  ran-replies (x then r) = let e = x .does in rw (e, ran-replies r)
+  ran-replies (x then r) = let e = x .does in let z = does-leave x in rw (e, z, ran-replies r)
 
   pub ran-replies-to : (process : ℕ) {b c : Board} {ks : List Call} {l : List Answer} → Ran s b ks l c → repliesTo process s b ks ≡ kept process ks l
   unfolding repliesTo kept
@@ -89,14 +93,14 @@ module _ {s : Shape} where
     Throughout (_then_ {b} x r) = (test (b .slots) ≡ false) × Throughout r
 
     pub never : {b c : Board} {ks : List Call} {l : List Answer} (r : Ran s b ks l c) → Throughout r → atSomeMoment test s b ks ≡ false
-    unfolding Throughout atSomeMoment
+    unfolding Throughout someMoment
     never ended h = h
-    never (x then r) h = let e = x .does in rw (h .0, e) (never r (h .1))
+    never (x then r) h = let e = does-leave x in rw (h .0, e) (never r (h .1))
 
     pub finally : {b c : Board} {ks : List Call} {l : List Answer} → Ran s b ks l c → test (c .slots) ≡ true → atSomeMoment test s b ks ≡ true
-    unfolding atSomeMoment
+    unfolding someMoment
     finally ended h = h
-    finally (_then_ {b} {c} {ks = ks} x r) h = let e = x .does in rw e (or-right (test (b .slots)) (atSomeMoment test s c ks) (finally r h))
+    finally (_then_ {b} {c} {ks = ks} x r) h = let e = does-leave x in rw e (or-right (test (b .slots)) (atSomeMoment test s c ks) (finally r h))
 
 -- ---- a test of the slots of a process
 

@@ -15,7 +15,8 @@ use Rattle.address.specs.Layout.{pageLines}
 use Rattle.address.specs.Addresses.{regionOf}
 use Rattle.board.specs.declared.Shape.{Shape}
 use Rattle.board.specs.Answers.{answer, markOf}
-use Rattle.board.specs.Shapes.{fitsShape}
+use Rattle.board.specs.Searches.{first}
+use Rattle.board.specs.Shapes.{editionHolds, matricesOf, fitsShape}
 use Rattle.board.proofs.Bools.{clash}
 use Rattle.board.proofs.Shapes.{limited}
 use Rattle.slots.specs.Slots.{slotWord}
@@ -23,7 +24,8 @@ use Rattle.pages.specs.Pages.{frameWord, lowestFrom, lowestFrame, mappedTo, fre
 use Rattle.line_bytes.specs.Bytes.{number, stored, lineOf, withLine, zeros, zeroedFrame}
 use Rattle.line_bytes.proofs.Bytes.{length-stored, length-line, length-zeros}
 use Rattle.lines.specs.Records.{lineAt, putLine, noLine}
-use Rattle.lines.specs.Holds.{holdsLine, holdsAt, holderFrom, holderOf}
+use Rattle.lines.specs.Holds.{holdsLine, holdsAt, holdsName, holderOf}
+use Rattle.lines.specs.Victims.{isEmpty, victimBy, victimAt, usedIn}
 use Rattle.lines.proofs.Records.{length-put, line-put-same, line-put-other}
 use Rattle.lines.proofs.OneBit.{one-bit, one-bit-lt}
 use Rattle.stores.specs.Stores.{Store, store, writtenBack, filled, noted, inserted, performedAt}
@@ -32,7 +34,7 @@ use Rattle.ranges.specs.Ranges.{inRange, named}
 use Rattle.visits.specs.Visits.{mapVisit, visitedAll}
 use Rattle.machine.specs.Boards.{Board, board, noTag}
 use Rattle.machine.specs.Refusals.{byTable, tooLarge, alignedTo, isOrdinary, isMapped, isCached, outside}
-use Rattle.machine.specs.Accesses.{performedOn, accessedBy, accessed, userTable, userAccess, supervisorTable, supervisorDone, supervisorAccess}
+use Rattle.machine.specs.Accesses.{performedOn, accessedBy, usesBy, accessed, userTable, userAccess, supervisorTable, supervisorDone, supervisorAccess}
 use Rattle.machine.specs.Calls as calls
 use Rattle.machine.specs.Calls.{mapPage, mapped}
 use Rattle.store_laws.proofs.Bytes.{copied-at}
@@ -67,28 +69,28 @@ one-bit-divides n h e =
     rw (← one-bit 9 n (omega arith) e) (rw (← p, z) at (dvd-mul-right (2 ^ t) (2 ^ (8 - t))))
 
 -- the place of a held line, with one line in a set
-place-one : (s : Shape) (records : List ℕ) (i : ℕ) → holdsAt 1 s records i ≡ true → i ≡ lineAt records i .name % s .lines
-place-one s records i h = simp div-one at (held-place 1 s records i h)
+place-one : (s : Shape) (records : List ℕ) (i : ℕ) → s .ways ≡ 1 → holdsAt s records i ≡ true → i ≡ lineAt records i .name % s .lines
+place-one s records i w h = simp div-one at (rw w at (held-place s records i h))
 
 pub few-lines-once : FewLinesOnce
-few-lines-once s x limits few step i j a b same =
+few-lines-once s x limits ways few step i j a b same =
     let d = one-bit-divides (s .lines) few (limited s limits .one) in
     let n = lineAt (x .records) i .name in
     let m = lineAt (x .records) j .name in
     let e : n % pageLines ≡ m % pageLines = step i a ∙ ap (λ (p : ℕ). p % pageLines) same ∙ sym (step j b) in
-    place-one s (x .records) i a
+    place-one s (x .records) i ways a
     ∙ sym (mod-mod-of-dvd (s .lines) n d) ∙ ap (λ (r : ℕ). r % s .lines) e ∙ mod-mod-of-dvd (s .lines) m d
-    ∙ sym (place-one s (x .records) j b)
+    ∙ sym (place-one s (x .records) j ways b)
 
 -- ---- 512 lines
 
 -- record 0 holds the prefix 1 line and record 256 the page's line
-module _ (x : Store) (first : lineAt (x .records) 0 ≡ directLine) (second : lineAt (x .records) 256 ≡ pageLine) where
+module _ (x : Store) (direct-is : lineAt (x .records) 0 ≡ directLine) (page-is : lineAt (x .records) 256 ≡ pageLine) where
   copies-twice : LinesOnce shape x → ⊥
   unfolding holdsLine
   copies-twice once =
       let z : _≡_ {A = ℕ} 0 256 =
-      once 0 256 (held-line 1 shape (x .records) 0 directLine first) (held-line 1 shape (x .records) 256 pageLine second) (rw (first, second)) in
+      once 0 256 (held-line shape (x .records) 0 directLine direct-is) (held-line shape (x .records) 256 pageLine page-is) (rw (direct-is, page-is)) in
       omega arith
 
 -- the records of the board with both
@@ -127,10 +129,10 @@ both-in-step i h = go (eqb 0 i) refl (eqb 256 i) refl
     go true t u e = let z = eqb-true 0 i t in rw (← z, both-first)
     go false t true e = let z = eqb-true 256 i e in rw (← z, both-second)
     go false t false e =
-        clash (holdsAt 1 shape both i) h (held-line 1 shape both i noLine (both-other i (eqb-false 0 i t) (eqb-false 256 i e)) ∙ holds-none 1 shape i)
+        clash (holdsAt shape both i) h (held-line shape both i noLine (both-other i (eqb-false 0 i t) (eqb-false 256 i e)) ∙ holds-none shape i)
 
 pub two-copies : TwoCopies
-unfolding ones onesIn fitsShape
+unfolding ones onesIn editionHolds matricesOf fitsShape
 two-copies = record {
   fits = rw (length-put one 256 pageLine, length-one, length-zeros 8192, length-memory);
   in-step = both-in-step;
@@ -152,24 +154,24 @@ untagged slots word r c m = board slots (word ∷ []) r c m noTag
 
 -- what map leaves of the records and the bytes
 abbrev swept : List ℕ → List ℕ → List ℕ → Store
-swept r c m = visitedAll 1 shape (mapVisit 0x200001 0) (store r c m)
+swept r c m = visitedAll shape (mapVisit 0x200001 0) (store r c m)
 
 abbrev cache1 : List ℕ
 cache1 = stored (withLine (zeros 8192) 0 (lineOf memory 0)) 0 4 50
 
 does-direct : Does shape start directStore (answer 0 0 2) (untagged slots0 0 one cache1 memory)
-unfolding ones onesIn fitsShape mappedTo homeBy directHome freeFrame homeOf lineAt putLine holdsLine holdsAt holderFrom holderOf writtenBack filled noted inserted performedAt wayByHome wayBy wayOf unreached byTable tooLarge alignedTo isOrdinary isCached outside markOf performedOn accessedBy accessed regionOf supervisorTable supervisorDone supervisorAccess supervise step
+unfolding ones onesIn editionHolds matricesOf fitsShape mappedTo homeBy directHome freeFrame homeOf lineAt putLine holdsLine holdsAt first holdsName holderOf isEmpty victimBy victimAt usedIn writtenBack filled noted inserted performedAt wayByHome wayBy wayOf unreached byTable tooLarge alignedTo isOrdinary isCached outside markOf performedOn accessedBy usesBy accessed regionOf supervisorTable supervisorDone supervisorAccess supervise step
 does-direct = record { does = rw (length-zeros 8192, length-memory) }
 
 module _ (r c m : List ℕ) (records-are : length r ≡ 1024) (cache-is : length c ≡ 8192) (memory-is : length m ≡ 4096) where
   does-map : Does shape (untagged slots0 0 r c m) (supervisor (map 0x200001 0 true)) (answer 0 0 0)
       (untagged slots0 (frameWord 0x200001 true) (swept r c m .records) (swept r c m .cache) (zeroedFrame (swept r c m .memory) 0))
-  unfolding ones onesIn fitsShape lowestFrom lowestFrame mappedTo byTable isMapped mapPage mapped supervise step
+  unfolding ones onesIn editionHolds matricesOf fitsShape lowestFrom lowestFrame mappedTo byTable isMapped mapPage mapped supervise step
   does-map = record { does = rw (records-are, cache-is, memory-is) }
 
   does-attach : Does shape (untagged slots0 (frameWord 0x200001 true) r c m) (supervisor (attach 0 0 2048 true)) (answer 0 0 0)
       (untagged slots1 (frameWord 0x200001 true) r c m)
-  unfolding ones onesIn fitsShape byTable calls.attach supervise step
+  unfolding ones onesIn editionHolds matricesOf fitsShape byTable calls.attach supervise step
   does-attach = record { does = rw (records-are, cache-is, memory-is) }
 
   -- byte 3 of the line that a miss fills from physical line 0
@@ -180,7 +182,7 @@ module _ (r c m : List ℕ) (records-are : length r ≡ 1024) (cache-is : length
   does-load : lineAt r 256 ≡ noLine
       → Does shape (untagged slots1 (frameWord 0x200001 true) r c m) (load 0 0x1003) (answer 0 (getD m 3 0) 2)
       (untagged slots1 (frameWord 0x200001 true) (putLine r 256 pageLine) (withLine c 256 (lineOf m 0)) m)
-  unfolding ones onesIn fitsShape lowestFrom lowestFrame mappedTo homeBy homeOf holdsLine holdsAt holderFrom holderOf filled noted inserted performedAt wayByHome wayBy wayOf unreached mayWrite byTable tooLarge alignedTo performedOn accessedBy accessed userTable userAccess step
+  unfolding ones onesIn editionHolds matricesOf fitsShape lowestFrom lowestFrame mappedTo homeBy homeOf holdsLine holdsAt first holdsName holderOf isEmpty victimBy victimAt usedIn filled noted inserted performedAt wayByHome wayBy wayOf unreached mayWrite byTable tooLarge alignedTo performedOn accessedBy usesBy accessed userTable userAccess step
   does-load h = record { does = rw (records-are, cache-is, memory-is, h, none-written shape 256 r c m h, none-marked shape 256 r h, loaded-byte) }
 
 cache1-is : length cache1 ≡ 8192
@@ -193,8 +195,8 @@ one-second = line-put-other none 0 directLine 256 (omega arith) ∙ fresh-line 1
 abbrev sweptOne : Store
 sweptOne = swept one cache1 memory
 
-swept-at : (i : ℕ) → i < 512 → lineAt (sweptOne .records) i ≡ fate 1 shape (mapVisit 0x200001 0) i (lineAt one i)
-swept-at i h = swept-line 1 shape (mapVisit 0x200001 0) (store one cache1 memory) i length-one h
+swept-at : (i : ℕ) → i < 512 → lineAt (sweptOne .records) i ≡ fate shape (mapVisit 0x200001 0) i (lineAt one i)
+swept-at i h = swept-line shape (mapVisit 0x200001 0) (store one cache1 memory) i length-one h
 
 swept-first : lineAt (sweptOne .records) 0 ≡ noLine
 unfolding holdsLine named inRange fate fateOf
@@ -214,7 +216,7 @@ abbrev zeroed : List ℕ
 zeroed = zeroedFrame (sweptOne .memory) 0
 
 swept-one : SameCache (store one cache1 memory) sweptOne
-swept-one = swept-cache 1 shape (mapVisit 0x200001 0) (store one cache1 memory)
+swept-one = swept-cache shape (mapVisit 0x200001 0) (store one cache1 memory)
 
 swept-memory-is : length (sweptOne .memory) ≡ 4096
 swept-memory-is = swept-one .memory-length ∙ length-memory

@@ -13,7 +13,8 @@ use lib.Dec.{eqb}
 use borrow.Author.Tests.{eqb-true}
 use Rattle.board.specs.Answers.{answer, markOf}
 use Rattle.board.specs.Lists.{part, splice}
-use Rattle.board.specs.Shapes.{fitsShape}
+use Rattle.board.specs.Searches.{first}
+use Rattle.board.specs.Shapes.{editionHolds, matricesOf, fitsShape}
 use Rattle.board.specs.declared.Answer.{Answer}
 use Rattle.board.proofs.Bools.{clash}
 use Rattle.slots.specs.Slots.{slotWord}
@@ -22,13 +23,14 @@ use Rattle.line_bytes.specs.Bytes.{number, digits, stored, lineOf, withLine, ze
 use Rattle.line_bytes.proofs.Bytes.{length-line}
 use Rattle.lines.specs.Records.{wordOf, lineAt, putLine, newLine, changedLine}
 use Rattle.lines.specs.declared.Line.{Line}
-use Rattle.lines.specs.Holds.{holdsLine, holdsAt, holderFrom, holderOf, keepsLine, keeperFrom, keeperOf}
+use Rattle.lines.specs.Holds.{holdsLine, holdsAt, holdsName, holderOf, keepsLine, keeperOf}
+use Rattle.lines.specs.Victims.{isEmpty, victimBy, victimAt, usedIn}
 use Rattle.stores.specs.Stores.{writtenBack, filled, noted, inserted, performedAt, currentBy, current}
 use Rattle.reach.specs.Reach.{wayByHome, wayBy, wayOf, unreached, mayWrite}
 use Rattle.visits.specs.Visits.{visited, sweep, visitedAll}
 use Rattle.machine.specs.Boards.{Board, board, noTag, Fresh}
 use Rattle.machine.specs.Refusals.{byTable, tooLarge, alignedTo, isMapped}
-use Rattle.machine.specs.Accesses.{performedOn, accessedBy, accessed, userTable, userAccess}
+use Rattle.machine.specs.Accesses.{performedOn, accessedBy, usesBy, accessed, userTable, userAccess}
 use Rattle.machine.specs.Calls as calls
 use Rattle.machine.specs.Calls.{mapPage, mapped}
 use Rattle.machine.specs.Looks.{look}
@@ -135,91 +137,91 @@ last m = holding false others 7 m
 -- ---- the calls of the runs
 
 pub does-map-first : Does shape start (supervisor (map 0x200000 1 true)) (answer 0 0 0) (empty slots0 words1 memory1)
-unfolding ones onesIn fitsShape lowestFrom lowestFrame mappedTo zeros lineAt holdsLine holdsAt visited sweep visitedAll byTable isMapped mapPage mapped supervise step
+unfolding ones onesIn editionHolds matricesOf fitsShape lowestFrom lowestFrame mappedTo zeros lineAt holdsLine holdsAt visited sweep visitedAll byTable isMapped mapPage mapped supervise step
 does-map-first = record { does = rw length-memory }
 
 module _ (m : List ℕ) (fits : length m ≡ 16384) where
   does-map-second : Does shape (empty slots0 words1 m) (supervisor (map 0x200400 2 true)) (answer 0 0 0) (empty slots0 words2 (zeroedFrame m 2))
-  unfolding ones onesIn fitsShape lowestFrom lowestFrame mappedTo lineAt holdsLine holdsAt visited sweep visitedAll byTable isMapped mapPage mapped supervise step
+  unfolding ones onesIn editionHolds matricesOf fitsShape lowestFrom lowestFrame mappedTo lineAt holdsLine holdsAt visited sweep visitedAll byTable isMapped mapPage mapped supervise step
   does-map-second = record { does = rw fits }
 
   does-attach-own : Does shape (empty slots0 words2 m) (supervisor (attach 0 0 2048 true)) (answer 0 0 0) (empty slots1 words2 m)
-  unfolding ones onesIn fitsShape byTable calls.attach supervise step
+  unfolding ones onesIn editionHolds matricesOf fitsShape byTable calls.attach supervise step
   does-attach-own = record { does = rw fits }
 
   module _ (write : Bool) where
     does-attach-shared : Does shape (empty slots1 words2 m) (supervisor (attach 1 0 2048 write)) (answer 0 0 0) (empty (slots2 write) words2 m)
-    unfolding ones onesIn fitsShape byTable calls.attach supervise step
+    unfolding ones onesIn editionHolds matricesOf fitsShape byTable calls.attach supervise step
     does-attach-shared = record { does = rw fits }
 
     does-attach-other : Does shape (empty (slots2 write) words2 m) (supervisor (attach 1 1 2049 true)) (answer 0 0 0) (empty (slots3 write) words2 m)
-    unfolding ones onesIn fitsShape byTable calls.attach supervise step
+    unfolding ones onesIn editionHolds matricesOf fitsShape byTable calls.attach supervise step
     does-attach-other = record { does = rw fits }
 
     does-save-fifty : lineOf m 256 ≡ lineWith 0 → Does shape (empty (slots3 write) words2 m) (save 0 4 0 50) (answer 0 0 2) (holding write (changedLine ours) 50 m)
-    unfolding ones onesIn part splice fitsShape lowestFrom lowestFrame mappedTo homeBy homeOf digits stored withLine lineAt putLine holdsLine holdsAt holderFrom holderOf writtenBack filled noted inserted performedAt wayByHome wayBy wayOf unreached mayWrite byTable tooLarge alignedTo markOf performedOn accessedBy accessed userTable userAccess step
+    unfolding ones onesIn part splice editionHolds matricesOf fitsShape lowestFrom lowestFrame mappedTo homeBy homeOf digits stored withLine lineAt putLine holdsLine holdsAt first holdsName holderOf isEmpty victimBy victimAt usedIn writtenBack filled noted inserted performedAt wayByHome wayBy wayOf unreached mayWrite byTable tooLarge alignedTo markOf performedOn accessedBy usesBy accessed userTable userAccess step
     does-save-fifty h = record { does = rw (fits, h) }
 
     -- the line of process 0 is held, changed
     does-hit : (value : ℕ) → Does shape (holding write (changedLine ours) value m) (load 0 3) (answer 0 value 1) (holding write (changedLine ours) value m)
-    unfolding ones onesIn fitsShape number lineAt holdsLine holdsAt holderFrom holderOf performedAt wayBy wayOf unreached mayWrite byTable tooLarge alignedTo markOf performedOn accessedBy accessed userTable userAccess step
+    unfolding ones onesIn editionHolds matricesOf fitsShape number lineAt holdsLine holdsAt first holdsName holderOf usedIn performedAt wayBy wayOf unreached mayWrite byTable tooLarge alignedTo markOf performedOn accessedBy usesBy accessed userTable userAccess step
     does-hit value = record { does = rw (fits, zero-add) }
 
   -- run A: process 1 loads the 50
   pub does-hit-shared : Does shape (holding false (changedLine ours) 50 m) (load 1 3) (answer 0 50 1) (holding false (changedLine ours) 50 m)
-  unfolding ones onesIn fitsShape number lineAt holdsLine holdsAt holderFrom holderOf performedAt wayBy wayOf unreached mayWrite byTable tooLarge alignedTo markOf performedOn accessedBy accessed userTable userAccess step
+  unfolding ones onesIn editionHolds matricesOf fitsShape number lineAt holdsLine holdsAt first holdsName holderOf usedIn performedAt wayBy wayOf unreached mayWrite byTable tooLarge alignedTo markOf performedOn accessedBy usesBy accessed userTable userAccess step
   does-hit-shared = record { does = rw fits }
 
   -- its store of 7 pushes the 50 out
   pub does-push : lineOf (withLine m 256 (lineWith 50)) 512 ≡ lineWith 0
       → Does shape (holding false (changedLine ours) 50 m) (save 1 4 0x400000 7) (answer 0 0 3) (holding false (changedLine others) 7 (withLine m 256 (lineWith 50)))
-  unfolding ones onesIn part splice fitsShape lowestFrom lowestFrame mappedTo homeBy homeOf digits stored lineOf withLine lineAt putLine holdsLine holdsAt holderFrom holderOf writtenBack filled noted inserted performedAt wayByHome wayBy wayOf unreached mayWrite byTable tooLarge alignedTo markOf performedOn accessedBy accessed userTable userAccess step
+  unfolding ones onesIn part splice editionHolds matricesOf fitsShape lowestFrom lowestFrame mappedTo homeBy homeOf digits stored lineOf withLine lineAt putLine holdsLine holdsAt first holdsName holderOf isEmpty victimBy victimAt usedIn writtenBack filled noted inserted performedAt wayByHome wayBy wayOf unreached mayWrite byTable tooLarge alignedTo markOf performedOn accessedBy usesBy accessed userTable userAccess step
   does-push h = record { does = rw (fits, h) }
 
   -- process 0 loads its 50 from memory, which pushes the 7 out
   pub does-load-fifty : lineOf (withLine m 512 (lineWith 7)) 256 ≡ lineWith 50
       → Does shape (holding false (changedLine others) 7 m) (load 0 3) (answer 0 50 3) (holding false ours 50 (withLine m 512 (lineWith 7)))
-  unfolding ones onesIn part splice fitsShape lowestFrom lowestFrame mappedTo homeBy homeOf number lineOf withLine lineAt putLine holdsLine holdsAt holderFrom holderOf writtenBack filled noted inserted performedAt wayByHome wayBy wayOf unreached mayWrite byTable tooLarge alignedTo markOf performedOn accessedBy accessed userTable userAccess step
+  unfolding ones onesIn part splice editionHolds matricesOf fitsShape lowestFrom lowestFrame mappedTo homeBy homeOf number lineOf withLine lineAt putLine holdsLine holdsAt first holdsName holderOf isEmpty victimBy victimAt usedIn writtenBack filled noted inserted performedAt wayByHome wayBy wayOf unreached mayWrite byTable tooLarge alignedTo markOf performedOn accessedBy usesBy accessed userTable userAccess step
   does-load-fifty h = record { does = rw (fits, h) }
 
   -- process 1 loads its 7 from memory; the 50 that leaves is not changed
   pub does-load-seven : lineOf m 512 ≡ lineWith 7 → Does shape (holding false ours 50 m) (load 1 0x400003) (answer 0 7 2) (last m)
-  unfolding ones onesIn part splice fitsShape lowestFrom lowestFrame mappedTo homeBy homeOf number lineOf withLine lineAt putLine holdsLine holdsAt holderFrom holderOf writtenBack filled noted inserted performedAt wayByHome wayBy wayOf unreached mayWrite byTable tooLarge alignedTo markOf performedOn accessedBy accessed userTable userAccess step
+  unfolding ones onesIn part splice editionHolds matricesOf fitsShape lowestFrom lowestFrame mappedTo homeBy homeOf number lineOf withLine lineAt putLine holdsLine holdsAt first holdsName holderOf isEmpty victimBy victimAt usedIn writtenBack filled noted inserted performedAt wayByHome wayBy wayOf unreached mayWrite byTable tooLarge alignedTo markOf performedOn accessedBy usesBy accessed userTable userAccess step
   does-load-seven h = record { does = rw (fits, h) }
 
   -- run B: the 9 goes to record 1, the 8 is refused, and the 50 is still held
   does-save-nine : lineOf m 513 ≡ lineWith 0 → Does shape (holding false (changedLine ours) 50 m) (save 1 4 0x400010 9) (answer 0 0 2) (apart m)
-  unfolding ones onesIn part splice fitsShape lowestFrom lowestFrame mappedTo homeBy homeOf digits stored lineOf withLine lineAt putLine holdsLine holdsAt holderFrom holderOf writtenBack filled noted inserted performedAt wayByHome wayBy wayOf unreached mayWrite byTable tooLarge alignedTo markOf performedOn accessedBy accessed userTable userAccess step
+  unfolding ones onesIn part splice editionHolds matricesOf fitsShape lowestFrom lowestFrame mappedTo homeBy homeOf digits stored lineOf withLine lineAt putLine holdsLine holdsAt first holdsName holderOf isEmpty victimBy victimAt usedIn writtenBack filled noted inserted performedAt wayByHome wayBy wayOf unreached mayWrite byTable tooLarge alignedTo markOf performedOn accessedBy usesBy accessed userTable userAccess step
   does-save-nine h = record { does = rw (fits, h) }
 
   does-refuse : Does shape (apart m) (save 1 1 3 8) (answer 7 0 0) (apart m)
-  unfolding ones onesIn fitsShape byTable tooLarge alignedTo userTable userAccess step
+  unfolding ones onesIn editionHolds matricesOf fitsShape byTable tooLarge alignedTo userTable userAccess step
   does-refuse = record { does = rw fits }
 
   does-hit-apart : Does shape (apart m) (load 0 3) (answer 0 50 1) (apart m)
-  unfolding ones onesIn fitsShape number lineAt holdsLine holdsAt holderFrom holderOf performedAt wayBy wayOf unreached mayWrite byTable tooLarge alignedTo markOf performedOn accessedBy accessed userTable userAccess step
+  unfolding ones onesIn editionHolds matricesOf fitsShape number lineAt holdsLine holdsAt first holdsName holderOf usedIn performedAt wayBy wayOf unreached mayWrite byTable tooLarge alignedTo markOf performedOn accessedBy usesBy accessed userTable userAccess step
   does-hit-apart = record { does = rw fits }
 
   -- run C: process 1 stores over the 50
   does-over : Does shape (holding true (changedLine ours) 50 m) (save 1 1 3 7) (answer 0 0 1) (holding true (changedLine ours) 7 m)
-  unfolding ones onesIn splice fitsShape digits stored lineAt putLine holdsLine holdsAt holderFrom holderOf performedAt wayBy wayOf unreached mayWrite byTable tooLarge alignedTo markOf performedOn accessedBy accessed userTable userAccess step
+  unfolding ones onesIn splice editionHolds matricesOf fitsShape digits stored lineAt putLine holdsLine holdsAt first holdsName holderOf usedIn performedAt wayBy wayOf unreached mayWrite byTable tooLarge alignedTo markOf performedOn accessedBy usesBy accessed userTable userAccess step
   does-over = record { does = rw fits }
 
   -- after run A: two refusals, and what look shows
   refuse-user : LowerGiven (last m) (save 1 4 2 8) 4 7
-  unfolding ones onesIn fitsShape byTable tooLarge alignedTo userTable userAccess step rowsOf appliesIn
+  unfolding ones onesIn editionHolds matricesOf fitsShape byTable tooLarge alignedTo userTable userAccess step rowsOf appliesIn
   refuse-user = record { low-applies = rw fits; high-applies = rw fits; in-order = omega arith; low-given = rw fits }
 
   refuse-map : LowerGiven (last m) (supervisor (map 0x200000 1 true)) 10 11
-  unfolding ones onesIn fitsShape lowestFrom lowestFrame mappedTo byTable isMapped mapPage supervise step supervisorRows rowsOf appliesIn
+  unfolding ones onesIn editionHolds matricesOf fitsShape lowestFrom lowestFrame mappedTo byTable isMapped mapPage supervise step supervisorRows rowsOf appliesIn
   refuse-map = record { low-applies = rw fits; high-applies = rw fits; in-order = omega arith; low-given = rw fits }
 
   look-last : look shape (last m) 256 ≡ lineOf m 256
-  unfolding ones onesIn fitsShape lineAt holdsLine holdsAt keepsLine keeperFrom keeperOf currentBy current byTable look
+  unfolding ones onesIn editionHolds matricesOf fitsShape lineAt holdsLine holdsAt keepsLine first keeperOf currentBy current byTable look
   look-last = rw fits
 
   look-apart : look shape (apart m) 256 ≡ lineWith 50
-  unfolding ones onesIn part fitsShape lineOf lineAt holdsLine holdsAt keepsLine keeperFrom keeperOf currentBy current byTable look
+  unfolding ones onesIn part editionHolds matricesOf fitsShape lineOf lineAt holdsLine holdsAt keepsLine first keeperOf currentBy current byTable look
   look-apart = rw fits
 
 -- ---- the runs

@@ -1,5 +1,6 @@
 -- The run on the largest board, call by call. Its lists are too long to be counted: each call is shown of any lists of their lengths.
 use Prim.Native.Nat.{ℕ, _+_, _*_}
+use mathlib.Core.Logic.{inl}
 use mathlib.Core.Path.{_≡_, refl, ap, _∙_}
 use mathlib.Core.Bool.{true}
 use mathlib.Core.List.{List, [], _∷_}
@@ -10,13 +11,15 @@ use lib.ListN.{length, getD, set, replicate, length-replicate, length-set}
 use lib.Seq.{getD-set-same}
 use Rattle.address.specs.Layout.{lineBytes, pageBytes, processSlots}
 use Rattle.board.specs.Answers.{answer, markOf}
-use Rattle.board.specs.Shapes.{fitsShape, recordWords}
+use Rattle.board.specs.Searches.{first}
+use Rattle.board.specs.Shapes.{editionHolds, matricesOf, fitsShape, recordWords}
 use Rattle.slots.specs.Slots.{slotIndex, slotWord}
 use Rattle.pages.specs.Pages.{frameWord, lowestFrom, lowestFrame, mappedTo, homeBy, homeOf}
 use Rattle.line_bytes.specs.Bytes.{number, digits, stored, lineOf, withLine, zeros, zeroedFrame}
 use Rattle.line_bytes.proofs.Bytes.{length-stored, length-line, length-zeros}
 use Rattle.lines.specs.Records.{lineAt, putLine, noLine, newLine, changedLine}
-use Rattle.lines.specs.Holds.{holdsLine, holdsAt, holderFrom, holderOf}
+use Rattle.lines.specs.Holds.{holdsLine, holdsAt, holdsName, holderOf}
+use Rattle.lines.specs.Victims.{isEmpty, victimBy, victimAt, usedIn}
 use Rattle.lines.specs.declared.Line.{Line}
 use Rattle.lines.proofs.Records.{length-put, line-put-same}
 use Rattle.lines.proofs.OneBit.{power-one}
@@ -25,7 +28,7 @@ use Rattle.reach.specs.Reach.{wayByHome, wayBy, wayOf, unreached, mayWrite}
 use Rattle.visits.specs.Visits.{mapVisit, visitedAll}
 use Rattle.machine.specs.Boards.{Board, board, noTag}
 use Rattle.machine.specs.Refusals.{byTable, tooLarge, alignedTo, isMapped}
-use Rattle.machine.specs.Accesses.{performedOn, accessedBy, accessed, userTable, userAccess}
+use Rattle.machine.specs.Accesses.{performedOn, accessedBy, usesBy, accessed, userTable, userAccess}
 use Rattle.machine.specs.Calls as calls
 use Rattle.machine.specs.Calls.{mapPage, mapped}
 use Rattle.store_laws.proofs.Bytes.{splice-in}
@@ -67,12 +70,12 @@ record Long (slots r c m : List ℕ) : Type 0 where
 
 module _ (slots r c m : List ℕ) (x : Long slots r c m) where
   -- the numbers are taken
-  fits : fitsShape shape (length slots) 1 (length r) (length c) (length m) ≡ true
-  unfolding fitsShape
+  fits : fitsShape shape (length slots) 1 (length r) (length c) (length m) 0 ≡ true
+  unfolding editionHolds matricesOf fitsShape
   fits = rw (x .slots-are, x .records-are, x .cache-is, x .memory-is, one)
 
   abbrev swept : Store
-  swept = visitedAll 1 shape (mapVisit 0x2003FF 0) (store r c m)
+  swept = visitedAll shape (mapVisit 0x2003FF 0) (store r c m)
 
   does-map : Does shape (untagged slots 0 r c m) (supervisor (map 0x2003FF 0 true)) (answer 0 0 0)
       (untagged slots pageWord (swept .records) (swept .cache) (zeroedFrame (swept .memory) 0))
@@ -99,13 +102,13 @@ module _ (slots r c m : List ℕ) (x : Long slots r c m) where
     does-store : lineAt r lastPlace ≡ noLine → lineAt missedRecords lastPlace ≡ missed
         → Does shape (untagged slots pageWord r c m) (save lastProcess 4 0x7FFFFFFC 50) (answer 0 0 2)
         (untagged slots pageWord (putLine missedRecords lastPlace (changedLine missed)) (stored missedCache (lineBytes * lastPlace + 12) 4 50) m)
-    unfolding lowestFrom lowestFrame mappedTo homeBy homeOf holdsLine holdsAt holderFrom holderOf filled noted inserted performedAt wayByHome wayBy wayOf unreached mayWrite byTable tooLarge alignedTo performedOn accessedBy accessed userTable userAccess step
+    unfolding lowestFrom lowestFrame mappedTo homeBy homeOf holdsLine holdsAt first holdsName holderOf isEmpty victimBy victimAt usedIn filled noted inserted performedAt wayByHome wayBy wayOf unreached mayWrite byTable tooLarge alignedTo performedOn accessedBy usesBy accessed userTable userAccess step
     does-store h g = record { does = rw (fits, attached, h, none-written shape lastPlace r c m h, none-marked shape lastPlace r h, g) }
 
     does-load : lineAt r lastPlace ≡ changedLine missed
         → Does shape (untagged slots pageWord r c m) (load lastProcess 0x7FFFFFFF) (answer 0 (number c (lineBytes * lastPlace + 15) 1) 1)
         (untagged slots pageWord r c m)
-    unfolding holdsLine holdsAt holderFrom holderOf performedAt wayBy wayOf unreached mayWrite byTable tooLarge alignedTo markOf performedOn accessedBy accessed userTable userAccess step
+    unfolding holdsLine holdsAt first holdsName holderOf usedIn performedAt wayBy wayOf unreached mayWrite byTable tooLarge alignedTo markOf performedOn accessedBy usesBy accessed userTable userAccess step
     does-load h = record { does = rw (fits, attached, h) }
 
 -- ---- the lists of the run
@@ -138,7 +141,7 @@ abbrev memory1 : List ℕ
 memory1 = zeroedFrame (mappedStore .memory) 0
 
 kept : SameCache (store records0 cache0 memory0) mappedStore
-kept = swept-cache 1 shape (mapVisit 0x2003FF 0) (store records0 cache0 memory0)
+kept = swept-cache shape (mapVisit 0x2003FF 0) (store records0 cache0 memory0)
 
 long1 : Long slots0 (mappedStore .records) (mappedStore .cache) memory1
 long1 = record {
@@ -153,7 +156,7 @@ none0 = fresh-line (recordWords * shape .lines) lastPlace
 
 none1 : lineAt (mappedStore .records) lastPlace ≡ noLine
 unfolding holdsLine fate
-none1 = swept-line 1 shape (mapVisit 0x2003FF 0) (store records0 cache0 memory0) lastPlace (long0 .records-are) (omega arith) ∙ rw none0
+none1 = swept-line shape (mapVisit 0x2003FF 0) (store records0 cache0 memory0) lastPlace (long0 .records-are) (omega arith) ∙ rw none0
 
 -- after the attach
 abbrev slots1 : List ℕ
@@ -209,6 +212,7 @@ loaded-byte = zero-add _ ∙ splice-in cache2 (lineBytes * lastPlace + 12) (digi
 
 ran : Ran shape start run (answer 0 0 0 ∷ answer 2 0 0 ∷ answer 0 0 0 ∷ answer 0 0 2 ∷ answer 0 (number cache3 (lineBytes * lastPlace + 15) 1) 1 ∷ [])
     (untagged slots1 pageWord records3 cache3 memory1)
+unfolding matricesOf
 ran =
     does-map slots0 records0 cache0 memory0 long0
     then does-past slots0 (mappedStore .records) (mappedStore .cache) memory1 long1
@@ -227,6 +231,7 @@ largest-board = record {
     processes-high = omega arith;
     lines-are = refl;
     lines-high = omega arith;
+    edition = inl refl;
   };
   as-long = limits-stand .there-are shape cache0 memory0 (long0 .cache-is) (long0 .memory-is);
   answers-are = ran-answers ran ∙ rw loaded-byte;

@@ -9,21 +9,21 @@ use lib.Dec.{eqb}
 use lib.ListN.{drop}
 use Rattle.address.specs.Addresses.{effective}
 use Rattle.board.specs.Answers.{answer}
-use Rattle.board.specs.Shapes.{fitsShape}
+use Rattle.board.specs.Shapes.{editionHolds, matricesOf, fitsShape}
 use Rattle.board.specs.declared.Answer.{Answer}
 use Rattle.board.specs.declared.Shape.{Shape}
 use Rattle.line_bytes.specs.Bytes.{zeros}
 use Rattle.machine.specs.Boards.{Board, fitsBoard}
 use Rattle.machine.specs.Refusals.{byTable}
 use Rattle.machine.specs.Lists.{Asked, asksFrom, answered, oneByOne, listed, listDone, userAccesses}
-use Rattle.promises.specs.Runs.{Call, user, supervisor, Reply, reply, step, after}
+use Rattle.promises.specs.Runs.{someMoment, Call, user, supervisor, Reply, reply, step, after}
 use Rattle.promises.specs.Demand3.{holds, holdsForWriting, atSomeMoment, repliesTo}
-use Rattle.promises.specs.Brought.{bringing, broughtAtSomeMoment, broughtWithoutOthers, broughtRepliesTo}
+use Rattle.promises.specs.Brought.{bringing, broughtNext, broughtAtSomeMoment, broughtWithoutOthers, broughtRepliesTo}
 use Rattle.promises.specs.Values.{asUser, asks}
 use Rattle.promises.specs.Lists.{asCall, turnCalls, callsOf}
 use Rattle.promises.proofs.Brought.{one-shape}
 use Rattle.promises.proofs.Lists.{got, lists-are-calls}
-use Rattle.example_runs.specs.Examples.{shape, start, load, save, opening, runA, runB}
+use Rattle.example_runs.specs.Examples.{shape, start, load, save, runA, runB}
 use Rattle.example_runs.specs.Lists.{accesses, buffer, opened, turnsA, turnsB, ListExample}
 use Rattle.example_runs.proofs.Chains.{Ran, ended, _then_, ran-after}
 use Rattle.example_runs.proofs.Examples.{length-memory, memory2, memory2-fits, ran-opening, after-opening, example3}
@@ -53,12 +53,12 @@ done-four = rw fifty (ap listDone (ran-list shape (holdingFour memory2 0 0 0 50)
 -- ---- two runs in which lists come
 
 start-fits : fitsBoard shape start ≡ true
-unfolding ones onesIn fitsShape zeros
+unfolding ones onesIn editionHolds matricesOf fitsShape zeros
 start-fits = rw length-memory
 
 -- runs in one shape
 one-moment : (s : Shape) (test : List ℕ → Bool) (b : Board) (ks : List Call) → broughtAtSomeMoment test b (bringing s ks) ≡ atSomeMoment test s b ks
-unfolding broughtAtSomeMoment bringing atSomeMoment
+unfolding someMoment broughtNext bringing
 one-moment s test b [] = refl
 one-moment s test b (k ∷ ks) = ap (λ (t : Bool). test (b .slots) || t) (one-moment s test (step s b k .after) ks)
 

@@ -7,7 +7,7 @@ use lib.Count.{ones, onesIn}
 use lib.ListN.{length}
 use Rattle.address.specs.Addresses.{effective, nameOf, regionOf}
 use Rattle.board.specs.Answers.{answer}
-use Rattle.board.specs.Shapes.{fitsShape}
+use Rattle.board.specs.Shapes.{editionHolds, matricesOf, fitsShape}
 use Rattle.board.specs.declared.Answer.{Answer}
 use Rattle.line_bytes.specs.Bytes.{stored}
 use Rattle.line_bytes.proofs.Bytes.{length-stored}
@@ -28,11 +28,11 @@ use Rattle.example_runs.proofs.Examples.{memory2, memory2-fits, memory3
 module _ (m : List ℕ) (fits : length m ≡ 16384) where
   -- past the cache, and refused
   does-past : Does shape (last m) (saveByte 0 255) (answer 0 0 4) (last (stored m 0 1 255))
-  unfolding ones onesIn fitsShape regionOf byTable tooLarge alignedTo isOrdinary isCached outside memoryAccess supervisorTable supervisorDone supervisorAccess supervise step
+  unfolding ones onesIn editionHolds matricesOf fitsShape regionOf byTable tooLarge alignedTo isOrdinary isCached outside memoryAccess supervisorTable supervisorDone supervisorAccess supervise step
   does-past = record { does = rw fits }
 
   does-refuse : Does shape (last m) (save 1 1 3 8) (answer 7 0 0) (last m)
-  unfolding ones onesIn fitsShape byTable tooLarge alignedTo userTable userAccess step
+  unfolding ones onesIn editionHolds matricesOf fitsShape byTable tooLarge alignedTo userTable userAccess step
   does-refuse = record { does = rw fits }
 
 ran-marks : Ran shape start run (six (answer 0 50 1 ∷ answer 0 0 3 ∷ answer 0 50 3 ∷ answer 0 7 2 ∷ answer 0 0 4 ∷ answer 7 0 0 ∷ [])) (last (stored memory4 0 1 255))

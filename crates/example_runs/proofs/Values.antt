@@ -11,16 +11,18 @@ use Rattle.address.specs.Layout.{pageBytes}
 use Rattle.address.specs.Addresses.{effective, global, regionOf}
 use Rattle.board.specs.Answers.{answer, markOf}
 use Rattle.board.specs.Lists.{splice}
-use Rattle.board.specs.Shapes.{fitsShape}
+use Rattle.board.specs.Searches.{first}
+use Rattle.board.specs.Shapes.{editionHolds, matricesOf, fitsShape}
 use Rattle.line_bytes.specs.Bytes.{number, digits, stored}
 use Rattle.line_bytes.proofs.Bytes.{length-stored}
 use Rattle.lines.specs.Records.{lineAt, putLine, wordOf, changedLine}
-use Rattle.lines.specs.Holds.{holdsLine, holdsAt, holderFrom, holderOf}
+use Rattle.lines.specs.Holds.{holdsLine, holdsAt, holdsName, holderOf}
+use Rattle.lines.specs.Victims.{usedIn}
 use Rattle.stores.specs.Stores.{performedAt}
 use Rattle.reach.specs.Reach.{wayBy, wayOf, unreached, mayWrite}
 use Rattle.machine.specs.Boards.{Board, board, tagged, fitsBoard}
 use Rattle.machine.specs.Refusals.{byTable, isWidth, tooLarge, isOrdinary, isCached, alignedTo, outside}
-use Rattle.machine.specs.Accesses.{performedOn, accessedBy, accessed, memoryAccess, userTable, userAccess, supervisorTable, supervisorDone, supervisorAccess}
+use Rattle.machine.specs.Accesses.{performedOn, accessedBy, usesBy, accessed, memoryAccess, userTable, userAccess, supervisorTable, supervisorDone, supervisorAccess}
 use Rattle.machine.specs.Calls as calls
 use Rattle.promises.specs.Runs.{tag, user, supervisor, supervise, step}
 use Rattle.promises.specs.Demand1.{rowsOf, appliesIn}
@@ -48,61 +50,61 @@ refuses b x width value f w h = record { does = values-fit .too-large shape b x 
 
 module _ (m : List ℕ) (length-is : length m ≡ 16384) where
   pub fits-here : (a b c d : ℕ) → fitsBoard shape (holdingFour m a b c d) ≡ true
-  unfolding ones onesIn fitsShape
+  unfolding ones onesIn editionHolds matricesOf fitsShape
   fits-here a b c d = rw length-is
 
   does-width-0 : Does shape (holdingFour m 0 0 0 50) (save 0 0 3 1) (answer 4 0 0) (holdingFour m 0 0 0 50)
-  unfolding ones onesIn fitsShape byTable tooLarge alignedTo userTable userAccess step
+  unfolding ones onesIn editionHolds matricesOf fitsShape byTable tooLarge alignedTo userTable userAccess step
   does-width-0 = record { does = rw length-is }
 
   does-width-3 : Does shape (holdingFour m 0 0 0 50) (save 0 3 3 300) (answer 4 0 0) (holdingFour m 0 0 0 50)
-  unfolding ones onesIn fitsShape byTable tooLarge alignedTo userTable userAccess step
+  unfolding ones onesIn editionHolds matricesOf fitsShape byTable tooLarge alignedTo userTable userAccess step
   does-width-3 = record { does = rw length-is }
 
   -- loads of a held line, and stores to it
   pub does-load-byte : (d v : ℕ) → Does shape (holdingFour m 0 0 0 d) (user 0 (loading 1 v) (effective 3)) (answer 0 d 1) (holdingFour m 0 0 0 d)
-  unfolding ones onesIn fitsShape number lineAt holdsLine holdsAt holderFrom holderOf performedAt wayBy wayOf unreached mayWrite byTable tooLarge alignedTo markOf performedOn accessedBy accessed userTable userAccess step
+  unfolding ones onesIn editionHolds matricesOf fitsShape number lineAt holdsLine holdsAt first holdsName holderOf usedIn performedAt wayBy wayOf unreached mayWrite byTable tooLarge alignedTo markOf performedOn accessedBy usesBy accessed userTable userAccess step
   does-load-byte d v = record { does = rw (length-is, zero-add) }
 
   does-load-pair : Does shape (holdingFour m 0 0 255 255) (user 0 (loading 2 0) (effective 2)) (answer 0 65535 1) (holdingFour m 0 0 255 255)
-  unfolding ones onesIn fitsShape number lineAt holdsLine holdsAt holderFrom holderOf performedAt wayBy wayOf unreached mayWrite byTable tooLarge alignedTo markOf performedOn accessedBy accessed userTable userAccess step
+  unfolding ones onesIn editionHolds matricesOf fitsShape number lineAt holdsLine holdsAt first holdsName holderOf usedIn performedAt wayBy wayOf unreached mayWrite byTable tooLarge alignedTo markOf performedOn accessedBy usesBy accessed userTable userAccess step
   does-load-pair = record { does = rw length-is }
 
   does-load-four : Does shape (holdingFour m 255 255 255 255) (user 0 (loading 4 0) (effective 0)) (answer 0 (2 ^ 32 - 1) 1) (holdingFour m 255 255 255 255)
-  unfolding ones onesIn fitsShape number lineAt holdsLine holdsAt holderFrom holderOf performedAt wayBy wayOf unreached mayWrite byTable tooLarge alignedTo markOf performedOn accessedBy accessed userTable userAccess step
+  unfolding ones onesIn editionHolds matricesOf fitsShape number lineAt holdsLine holdsAt first holdsName holderOf usedIn performedAt wayBy wayOf unreached mayWrite byTable tooLarge alignedTo markOf performedOn accessedBy usesBy accessed userTable userAccess step
   does-load-four = record { does = rw length-is }
 
   pub does-save-byte : Does shape (holdingFour m 0 0 0 50) (save 0 1 3 255) (answer 0 0 1) (holdingFour m 0 0 0 255)
-  unfolding ones onesIn splice fitsShape digits stored lineAt putLine holdsLine holdsAt holderFrom holderOf performedAt wayBy wayOf unreached mayWrite byTable tooLarge alignedTo markOf performedOn accessedBy accessed userTable userAccess step
+  unfolding ones onesIn splice editionHolds matricesOf fitsShape digits stored lineAt putLine holdsLine holdsAt first holdsName holderOf usedIn performedAt wayBy wayOf unreached mayWrite byTable tooLarge alignedTo markOf performedOn accessedBy usesBy accessed userTable userAccess step
   does-save-byte = record { does = rw length-is }
 
   does-save-pair : Does shape (holdingFour m 0 0 0 255) (save 0 2 2 65535) (answer 0 0 1) (holdingFour m 0 0 255 255)
-  unfolding ones onesIn splice fitsShape digits stored lineAt putLine holdsLine holdsAt holderFrom holderOf performedAt wayBy wayOf unreached mayWrite byTable tooLarge alignedTo markOf performedOn accessedBy accessed userTable userAccess step
+  unfolding ones onesIn splice editionHolds matricesOf fitsShape digits stored lineAt putLine holdsLine holdsAt first holdsName holderOf usedIn performedAt wayBy wayOf unreached mayWrite byTable tooLarge alignedTo markOf performedOn accessedBy usesBy accessed userTable userAccess step
   does-save-pair = record { does = rw length-is }
 
   does-save-four : Does shape (holdingFour m 0 0 255 255) (save 0 4 0 (2 ^ 32 - 1)) (answer 0 0 1) (holdingFour m 255 255 255 255)
-  unfolding ones onesIn splice fitsShape digits stored lineAt putLine holdsLine holdsAt holderFrom holderOf performedAt wayBy wayOf unreached mayWrite byTable tooLarge alignedTo markOf performedOn accessedBy accessed userTable userAccess step
+  unfolding ones onesIn splice editionHolds matricesOf fitsShape digits stored lineAt putLine holdsLine holdsAt first holdsName holderOf usedIn performedAt wayBy wayOf unreached mayWrite byTable tooLarge alignedTo markOf performedOn accessedBy usesBy accessed userTable userAccess step
   does-save-four = record { does = rw length-is }
 
   -- the supervisor's, to the held line and past the cache
   does-save-held : Does shape (holdingFour m 255 255 255 255) (saveByte 0x200000003 255) (answer 0 0 1) (holdingFour m 255 255 255 255)
-  unfolding ones onesIn splice fitsShape regionOf digits stored lineAt putLine holdsLine holdsAt holderFrom holderOf performedAt wayBy wayOf unreached mayWrite byTable tooLarge alignedTo isOrdinary isCached outside markOf performedOn accessedBy accessed supervisorTable supervisorDone supervisorAccess supervise step
+  unfolding ones onesIn splice editionHolds matricesOf fitsShape regionOf digits stored lineAt putLine holdsLine holdsAt first holdsName holderOf usedIn performedAt wayBy wayOf unreached mayWrite byTable tooLarge alignedTo isOrdinary isCached outside markOf performedOn accessedBy usesBy accessed supervisorTable supervisorDone supervisorAccess supervise step
   does-save-held = record { does = rw length-is }
 
   does-save-past : Does shape (holdingFour m 255 255 255 255) (saveByte 0 255) (answer 0 0 4) (holdingFour (stored m 0 1 255) 255 255 255 255)
-  unfolding ones onesIn fitsShape regionOf byTable tooLarge alignedTo isOrdinary isCached outside memoryAccess supervisorTable supervisorDone supervisorAccess supervise step
+  unfolding ones onesIn editionHolds matricesOf fitsShape regionOf byTable tooLarge alignedTo isOrdinary isCached outside memoryAccess supervisorTable supervisorDone supervisorAccess supervise step
   does-save-past = record { does = rw length-is }
 
   does-tag : Does shape (holdingFour m 0 0 0 50) (supervisor (tag 0x20000000)) (answer 0 0 0) (waiting m)
-  unfolding ones onesIn fitsShape byTable calls.tag supervise step
+  unfolding ones onesIn editionHolds matricesOf fitsShape byTable calls.tag supervise step
   does-tag = record { does = rw length-is }
 
   lower-4 : LowerGiven (holdingFour m 0 0 0 50) (save 0 2 1 65536) 2 4
-  unfolding ones onesIn fitsShape byTable tooLarge alignedTo userTable userAccess step rowsOf appliesIn
+  unfolding ones onesIn editionHolds matricesOf fitsShape byTable tooLarge alignedTo userTable userAccess step rowsOf appliesIn
   lower-4 = record { low-applies = rw length-is; high-applies = rw length-is; in-order = omega arith; low-given = rw length-is }
 
   lower-3 : LowerGiven (waiting m) (save 0 1 3 256) 2 3
-  unfolding ones onesIn fitsShape byTable tooLarge alignedTo userTable userAccess step rowsOf appliesIn
+  unfolding ones onesIn editionHolds matricesOf fitsShape byTable tooLarge alignedTo userTable userAccess step rowsOf appliesIn
   lower-3 = record { low-applies = rw length-is; high-applies = rw length-is; in-order = omega arith; low-given = rw length-is }
 
 ran-values : Ran shape start run

@@ -11,7 +11,8 @@ use Rattle.address.specs.Addresses.{global, regionOf}
 use Rattle.address.specs.declared.Effective.{Effective}
 use Rattle.board.specs.Answers.{answer, markOf}
 use Rattle.board.specs.Lists.{part, splice}
-use Rattle.board.specs.Shapes.{fitsShape}
+use Rattle.board.specs.Searches.{first}
+use Rattle.board.specs.Shapes.{editionHolds, matricesOf, fitsShape}
 use Rattle.board.specs.declared.Shape.{Shape}
 use Rattle.board.specs.declared.Answer.{Answer}
 use Rattle.slots.specs.Slots.{slotWord}
@@ -20,7 +21,8 @@ use Rattle.line_bytes.specs.Bytes.{number, digits, stored, lineOf, withLine, ze
 use Rattle.line_bytes.proofs.Bytes.{length-line}
 use Rattle.lines.specs.Records.{wordOf, lineAt, putLine, newLine, changedLine, permittedLine}
 use Rattle.lines.specs.declared.Line.{Line}
-use Rattle.lines.specs.Holds.{holdsLine, holdsAt, holderFrom, holderOf}
+use Rattle.lines.specs.Holds.{holdsLine, holdsAt, holdsName, holderOf}
+use Rattle.lines.specs.Victims.{isEmpty, victimBy, victimAt, usedIn}
 use Rattle.stores.specs.Stores.{store, writtenBack, filled, noted, dropped, inserted, performedAt}
 use Rattle.stores.specs.declared.Access.{Access}
 use Rattle.reach.specs.Reach.{wayByHome, wayBy, wayOf, unreached, mayWrite}
@@ -28,10 +30,10 @@ use Rattle.ranges.specs.Ranges.{inRange, named}
 use Rattle.visits.specs.Visits.{treated, visited, sweep, visitedAll}
 use Rattle.machine.specs.Boards.{Board, outcome, withStore}
 use Rattle.machine.specs.Refusals.{byTable, tooLarge, alignedTo, isOrdinary, isCached, isMapped, outside}
-use Rattle.machine.specs.Accesses.{performedOn, accessedBy, accessed, userTable, userAccess, supervisorTable, supervisorDone, supervisorAccess}
+use Rattle.machine.specs.Accesses.{performedOn, accessedBy, usesBy, accessed, userTable, userAccess, supervisorTable, supervisorDone, supervisorAccess}
 use Rattle.machine.specs.Calls as calls
 use Rattle.store_laws.proofs.Bytes.{line-ext}
-use Rattle.promises.specs.Runs.{Supervisor, access, attach, detach, map, unmap, protect, flushAll, tag, loadAndMap, dropTag, Call, user, supervisor, supervise, step, Reply, reply, replies, plainReplies, plainOf}
+use Rattle.promises.specs.Runs.{gained, Supervisor, access, attach, detach, map, unmap, protect, flushAll, tag, loadAndMap, dropTag, Call, user, supervisor, supervise, step, Reply, reply, replies, plainReplies, plainOf}
 use Rattle.promises.proofs.Demand2.{demand2}
 use Rattle.example_runs.specs.Examples.{shape, memory, start, load, save, gets, lineWith}
 use Rattle.example_runs.specs.Wrong.{Parts, superviseBy, stepBy, repliesBy, rightParts, RightMeets, Breaks, opening, opened, unmapKeepsLines, UnmapBreaks, protectKeepsLines, ProtectBreaks, noWriteBack, NoWriteBackBreaks, partCompared, PartComparedBreaks, mapKeepsLines, MapBreaks}
@@ -59,7 +61,7 @@ right-steps s b (user process a e) = refl
 right-steps s b (supervisor c) = right-supervises s b c
 
 right-replies : (s : Shape) (b : Board) (ks : List Call) → repliesBy rightParts s b ks ≡ replies s b ks
-unfolding repliesBy replies
+unfolding repliesBy gained
 right-replies s b [] = refl
 right-replies s b (k ∷ ks) = rw (right-steps s b k, right-replies s (step s b k .after) ks)
 
@@ -134,20 +136,20 @@ stored50 = holding (frameWord 0x200000 true) (changedLine ours) 50 memory2
 
 module _ (m : List ℕ) (fits : length m ≡ 16384) where
   does-map-second : Does shape (empty slots0 words1 m) (supervisor (map 0x300000 2 true)) (answer 0 0 0) (empty slots0 words2 (zeroedFrame m 2))
-  unfolding ones onesIn fitsShape lowestFrom lowestFrame mappedTo lineAt holdsLine holdsAt visited sweep visitedAll byTable isMapped calls.mapPage calls.mapped supervise step
+  unfolding ones onesIn editionHolds matricesOf fitsShape lowestFrom lowestFrame mappedTo lineAt holdsLine holdsAt visited sweep visitedAll byTable isMapped calls.mapPage calls.mapped supervise step
   does-map-second = record { does = rw fits }
 
   does-attach-first : Does shape (empty slots0 words2 m) (supervisor (attach 0 0 2048 true)) (answer 0 0 0) (empty slots1 words2 m)
-  unfolding ones onesIn fitsShape byTable calls.attach supervise step
+  unfolding ones onesIn editionHolds matricesOf fitsShape byTable calls.attach supervise step
   does-attach-first = record { does = rw fits }
 
   does-attach-second : Does shape (empty slots1 words2 m) (supervisor (attach 0 1 3072 true)) (answer 0 0 0) (empty slots2 words2 m)
-  unfolding ones onesIn fitsShape byTable calls.attach supervise step
+  unfolding ones onesIn editionHolds matricesOf fitsShape byTable calls.attach supervise step
   does-attach-second = record { does = rw fits }
 
   does-save : lineOf m 256 ≡ lineWith 0
       → Does shape (empty slots2 words2 m) (save 0 4 0 50) (answer 0 0 2) (holding (frameWord 0x200000 true) (changedLine ours) 50 m)
-  unfolding ones onesIn part splice fitsShape lowestFrom lowestFrame mappedTo homeBy homeOf digits stored withLine lineAt putLine holdsLine holdsAt holderFrom holderOf writtenBack filled noted inserted performedAt wayByHome wayBy wayOf unreached mayWrite byTable tooLarge alignedTo markOf performedOn accessedBy accessed userTable userAccess step
+  unfolding ones onesIn part splice editionHolds matricesOf fitsShape lowestFrom lowestFrame mappedTo homeBy homeOf digits stored withLine lineAt putLine holdsLine holdsAt first holdsName holderOf isEmpty victimBy victimAt usedIn writtenBack filled noted inserted performedAt wayByHome wayBy wayOf unreached mayWrite byTable tooLarge alignedTo markOf performedOn accessedBy usesBy accessed userTable userAccess step
   does-save h = record { does = rw (fits, h) }
 
 -- the opening, of a machine whose map and attach are the board's and that does the store
@@ -170,16 +172,16 @@ unmapped m = untagged slots2 (wordsWith 0) (0 ∷ 0 ∷ 0 ∷ 0 ∷ []) (lineWit
 
 module _ (m : List ℕ) (fits : length m ≡ 16384) where
   does-unmap : Does shape (holding (frameWord 0x200000 true) (changedLine ours) 50 m) (supervisor (unmap 0x200000)) (answer 0 0 0) (unmapped m)
-  unfolding ones onesIn part fitsShape lowestFrom lowestFrame mappedTo lineOf lineAt putLine holdsLine holdsAt writtenBack noted dropped named inRange treated visited sweep visitedAll byTable isMapped calls.foundFrame calls.unmapped calls.unmap supervise step
+  unfolding ones onesIn part editionHolds matricesOf fitsShape lowestFrom lowestFrame mappedTo lineOf lineAt putLine holdsLine holdsAt writtenBack noted dropped named inRange treated visited sweep visitedAll byTable isMapped calls.foundFrame calls.unmapped calls.unmap supervise step
   does-unmap = record { does = rw fits }
 
   does-refuse-unmapped : Does shape (unmapped m) (load 0 3) (answer 8 0 0) (unmapped m)
-  unfolding ones onesIn fitsShape lowestFrom lowestFrame mappedTo directHome homeBy homeOf lineAt holdsLine holdsAt holderFrom holderOf wayByHome wayBy wayOf unreached byTable tooLarge alignedTo userTable userAccess step
+  unfolding ones onesIn editionHolds matricesOf fitsShape lowestFrom lowestFrame mappedTo directHome homeBy homeOf lineAt holdsLine holdsAt first holdsName holderOf wayByHome wayBy wayOf unreached byTable tooLarge alignedTo userTable userAccess step
   does-refuse-unmapped = record { does = rw (length-line m 256 (lineWith 50), fits) }
 
   -- a held line is loaded from, whatever the frame word says
   does-hit : (word : ℕ) → Does shape (holding word (changedLine ours) 50 m) (load 0 3) (answer 0 50 1) (holding word (changedLine ours) 50 m)
-  unfolding ones onesIn fitsShape number lineAt holdsLine holdsAt holderFrom holderOf performedAt wayBy wayOf unreached mayWrite byTable tooLarge alignedTo markOf performedOn accessedBy accessed userTable userAccess step
+  unfolding ones onesIn editionHolds matricesOf fitsShape number lineAt holdsLine holdsAt first holdsName holderOf usedIn performedAt wayBy wayOf unreached mayWrite byTable tooLarge alignedTo markOf performedOn accessedBy usesBy accessed userTable userAccess step
   does-hit word = record { does = rw fits }
 
   does-unmap-wrong : DoesBy unmapKeepsLines (holding (frameWord 0x200000 true) (changedLine ours) 50 m) (supervisor (unmap 0x200000)) (answer 0 0 0)
@@ -206,17 +208,17 @@ readOnly = permittedLine ours false
 module _ (m : List ℕ) (fits : length m ≡ 16384) where
   does-protect : Does shape (holding (frameWord 0x200000 true) (changedLine ours) 50 m) (supervisor (protect 0x200000 false)) (answer 0 0 0)
       (holding (frameWord 0x200000 false) (changedLine readOnly) 50 m)
-  unfolding ones onesIn fitsShape lowestFrom lowestFrame mappedTo lineAt putLine holdsLine holdsAt noted named inRange treated visited sweep visitedAll byTable isMapped calls.foundFrame calls.protected calls.protect supervise step
+  unfolding ones onesIn editionHolds matricesOf fitsShape lowestFrom lowestFrame mappedTo lineAt putLine holdsLine holdsAt noted named inRange treated visited sweep visitedAll byTable isMapped calls.foundFrame calls.protected calls.protect supervise step
   does-protect = record { does = rw fits }
 
   does-refuse-read-only : Does shape (holding (frameWord 0x200000 false) (changedLine readOnly) 50 m) (save 0 1 3 7) (answer 9 0 0)
       (holding (frameWord 0x200000 false) (changedLine readOnly) 50 m)
-  unfolding ones onesIn fitsShape lineAt holdsLine holdsAt holderFrom holderOf wayBy wayOf unreached mayWrite byTable tooLarge alignedTo userTable userAccess step
+  unfolding ones onesIn editionHolds matricesOf fitsShape lineAt holdsLine holdsAt first holdsName holderOf wayBy wayOf unreached mayWrite byTable tooLarge alignedTo userTable userAccess step
   does-refuse-read-only = record { does = rw fits }
 
   -- a held line with write permission is stored to, whatever the frame word says
   does-over : (word : ℕ) → Does shape (holding word (changedLine ours) 50 m) (save 0 1 3 7) (answer 0 0 1) (holding word (changedLine ours) 7 m)
-  unfolding ones onesIn splice fitsShape digits stored lineAt putLine holdsLine holdsAt holderFrom holderOf performedAt wayBy wayOf unreached mayWrite byTable tooLarge alignedTo markOf performedOn accessedBy accessed userTable userAccess step
+  unfolding ones onesIn splice editionHolds matricesOf fitsShape digits stored lineAt putLine holdsLine holdsAt first holdsName holderOf usedIn performedAt wayBy wayOf unreached mayWrite byTable tooLarge alignedTo markOf performedOn accessedBy usesBy accessed userTable userAccess step
   does-over word = record { does = rw fits }
 
   does-protect-wrong : DoesBy protectKeepsLines (holding (frameWord 0x200000 true) (changedLine ours) 50 m) (supervisor (protect 0x200000 false)) (answer 0 0 0)
@@ -245,13 +247,13 @@ module _ (m : List ℕ) (fits : length m ≡ 16384) where
   does-push : lineOf (withLine m 256 (lineWith 50)) 512 ≡ lineWith 0
       → Does shape (holding (frameWord 0x200000 true) (changedLine ours) 50 m) (load 0 0x400003) (answer 0 0 3)
       (holding (frameWord 0x200000 true) theirs 0 (withLine m 256 (lineWith 50)))
-  unfolding ones onesIn part splice fitsShape lowestFrom lowestFrame mappedTo homeBy homeOf number lineOf withLine lineAt putLine holdsLine holdsAt holderFrom holderOf writtenBack filled noted inserted performedAt wayByHome wayBy wayOf unreached mayWrite byTable tooLarge alignedTo markOf performedOn accessedBy accessed userTable userAccess step
+  unfolding ones onesIn part splice editionHolds matricesOf fitsShape lowestFrom lowestFrame mappedTo homeBy homeOf number lineOf withLine lineAt putLine holdsLine holdsAt first holdsName holderOf isEmpty victimBy victimAt usedIn writtenBack filled noted inserted performedAt wayByHome wayBy wayOf unreached mayWrite byTable tooLarge alignedTo markOf performedOn accessedBy usesBy accessed userTable userAccess step
   does-push h = record { does = rw (fits, h) }
 
   -- the load from the first page then finds what is in memory
   does-reload : (value : ℕ) → lineOf m 256 ≡ lineWith value
       → Does shape (holding (frameWord 0x200000 true) theirs 0 m) (load 0 3) (answer 0 value 2) (holding (frameWord 0x200000 true) ours value m)
-  unfolding ones onesIn part splice fitsShape lowestFrom lowestFrame mappedTo homeBy homeOf number lineOf withLine lineAt putLine holdsLine holdsAt holderFrom holderOf writtenBack filled noted inserted performedAt wayByHome wayBy wayOf unreached mayWrite byTable tooLarge alignedTo markOf performedOn accessedBy accessed userTable userAccess step
+  unfolding ones onesIn part splice editionHolds matricesOf fitsShape lowestFrom lowestFrame mappedTo homeBy homeOf number lineOf withLine lineAt putLine holdsLine holdsAt first holdsName holderOf isEmpty victimBy victimAt usedIn writtenBack filled noted inserted performedAt wayByHome wayBy wayOf unreached mayWrite byTable tooLarge alignedTo markOf performedOn accessedBy usesBy accessed userTable userAccess step
   does-reload value h = record { does = rw (fits, h, zero-add) }
 
 -- what a user access gives, with memory as it was
@@ -275,13 +277,13 @@ module _ (m : List ℕ) (fits : length m ≡ 16384) where
   -- the store fills its line as on the board
   does-save-wrong : lineOf m 256 ≡ lineWith 0
       → DoesBy partCompared (empty slots2 words2 m) (save 0 4 0 50) (answer 0 0 2) (holding (frameWord 0x200000 true) (changedLine ours) 50 m)
-  unfolding ones onesIn part splice fitsShape lowestFrom lowestFrame mappedTo homeBy homeOf digits stored withLine lineAt putLine holdsLine holdsAt holderFrom holderOf writtenBack filled noted inserted performedAt wayByHome wayBy wayOf unreached mayWrite byTable tooLarge alignedTo markOf performedOn accessedBy accessed userTable userAccess stepBy
+  unfolding ones onesIn part splice editionHolds matricesOf fitsShape lowestFrom lowestFrame mappedTo homeBy homeOf digits stored withLine lineAt putLine holdsLine holdsAt first holdsName holderOf isEmpty victimBy victimAt usedIn writtenBack filled noted inserted performedAt wayByHome wayBy wayOf unreached mayWrite byTable tooLarge alignedTo markOf performedOn accessedBy usesBy accessed userTable userAccess stepBy
   does-save-wrong h = record { does = rw (fits, h) }
 
   -- the load finds the line of the first page, under the name of the other
   does-hit-wrong : DoesBy partCompared (holding (frameWord 0x200000 true) (changedLine ours) 50 m) (load 0 0x400003) (answer 0 50 1)
       (holding (frameWord 0x200000 true) (changedLine (newLine 0x30000000 256 true)) 50 m)
-  unfolding ones onesIn fitsShape number lineAt putLine holdsLine holdsAt holderFrom holderOf noted performedAt wayBy wayOf unreached mayWrite byTable tooLarge alignedTo markOf performedOn accessedBy accessed userTable userAccess stepBy
+  unfolding ones onesIn editionHolds matricesOf fitsShape number lineAt putLine holdsLine holdsAt first holdsName holderOf usedIn noted performedAt wayBy wayOf unreached mayWrite byTable tooLarge alignedTo markOf performedOn accessedBy usesBy accessed userTable userAccess stepBy
   does-hit-wrong = record { does = rw fits }
 
 pub part-compared-breaks : PartComparedBreaks
@@ -315,13 +317,13 @@ memory-line =
 
 does-direct : Does shape start (supervisor (access (record { store = true; width = 4; value = 7 }) (global 0x100001000))) (answer 0 0 2)
     (direct7 slots0 (0 ∷ 0 ∷ 0 ∷ 0 ∷ []) (direct .name) (wordOf direct) memory)
-unfolding ones onesIn part splice fitsShape mappedTo homeBy directHome freeFrame homeOf digits stored withLine zeros lineAt putLine holdsLine holdsAt holderFrom holderOf writtenBack filled noted inserted performedAt wayByHome wayBy wayOf unreached byTable tooLarge alignedTo isOrdinary isCached outside markOf performedOn accessedBy accessed regionOf supervisorTable supervisorDone supervisorAccess supervise step
+unfolding ones onesIn part splice editionHolds matricesOf fitsShape mappedTo homeBy directHome freeFrame homeOf digits stored withLine zeros lineAt putLine holdsLine holdsAt first holdsName holderOf isEmpty victimBy victimAt usedIn writtenBack filled noted inserted performedAt wayByHome wayBy wayOf unreached byTable tooLarge alignedTo isOrdinary isCached outside markOf performedOn accessedBy usesBy accessed regionOf supervisorTable supervisorDone supervisorAccess supervise step
 does-direct = record { does = rw (length-memory, memory-line) }
 
 module _ (m : List ℕ) (fits : length m ≡ 16384) where
   does-map : Does shape (direct7 slots0 (0 ∷ 0 ∷ 0 ∷ 0 ∷ []) (direct .name) (wordOf direct) m) (supervisor (map 0x200000 1 true)) (answer 0 0 0)
       (direct7 slots0 words1 0 0 (zeroedFrame m 1))
-  unfolding ones onesIn fitsShape lowestFrom lowestFrame mappedTo lineAt putLine holdsLine holdsAt noted dropped named inRange treated visited sweep visitedAll byTable isMapped calls.mapPage calls.mapped supervise step
+  unfolding ones onesIn editionHolds matricesOf fitsShape lowestFrom lowestFrame mappedTo lineAt putLine holdsLine holdsAt noted dropped named inRange treated visited sweep visitedAll byTable isMapped calls.mapPage calls.mapped supervise step
   does-map = record { does = rw fits }
 
   does-map-wrong : DoesBy mapKeepsLines (direct7 slots0 (0 ∷ 0 ∷ 0 ∷ 0 ∷ []) (direct .name) (wordOf direct) m) (supervisor (map 0x200000 1 true)) (answer 0 0 0)
@@ -330,21 +332,21 @@ module _ (m : List ℕ) (fits : length m ≡ 16384) where
   does-map-wrong = let e = does-map .does in record { does = rw e }
 
   does-attach : (name word : ℕ) → Does shape (direct7 slots0 words1 name word m) (supervisor (attach 0 0 2048 true)) (answer 0 0 0) (direct7 slots1 words1 name word m)
-  unfolding ones onesIn fitsShape byTable calls.attach supervise step
+  unfolding ones onesIn editionHolds matricesOf fitsShape byTable calls.attach supervise step
   does-attach name word = record { does = rw fits }
 
   -- nothing is held: the line is filled with the zeros of the map
   does-load-zero : lineOf m 256 ≡ lineWith 0
       → Does shape (direct7 slots1 words1 0 0 m) (load 0 3) (answer 0 0 2)
       (untagged slots1 words1 (ours .name ∷ wordOf ours ∷ 0 ∷ 0 ∷ []) (lineWith 0 ++ lineWith 0) m)
-  unfolding ones onesIn part splice fitsShape lowestFrom lowestFrame mappedTo homeBy homeOf number lineOf withLine lineAt putLine holdsLine holdsAt holderFrom holderOf writtenBack filled noted inserted performedAt wayByHome wayBy wayOf unreached mayWrite byTable tooLarge alignedTo markOf performedOn accessedBy accessed userTable userAccess step
+  unfolding ones onesIn part splice editionHolds matricesOf fitsShape lowestFrom lowestFrame mappedTo homeBy homeOf number lineOf withLine lineAt putLine holdsLine holdsAt first holdsName holderOf isEmpty victimBy victimAt usedIn writtenBack filled noted inserted performedAt wayByHome wayBy wayOf unreached mayWrite byTable tooLarge alignedTo markOf performedOn accessedBy usesBy accessed userTable userAccess step
   does-load-zero h = record { does = rw (fits, h) }
 
   -- the old line is written back first, over the zeros
   does-load-seven : lineOf (withLine m 256 (lineOver 0 7)) 256 ≡ lineOver 0 7
       → Does shape (direct7 slots1 words1 (direct .name) (wordOf direct) m) (load 0 3) (answer 0 7 3)
       (direct7 slots1 words1 (ours .name) (wordOf ours) (withLine m 256 (lineOver 0 7)))
-  unfolding ones onesIn part splice fitsShape lowestFrom lowestFrame mappedTo homeBy homeOf number lineOf withLine lineAt putLine holdsLine holdsAt holderFrom holderOf writtenBack filled noted inserted performedAt wayByHome wayBy wayOf unreached mayWrite byTable tooLarge alignedTo markOf performedOn accessedBy accessed userTable userAccess step
+  unfolding ones onesIn part splice editionHolds matricesOf fitsShape lowestFrom lowestFrame mappedTo homeBy homeOf number lineOf withLine lineAt putLine holdsLine holdsAt first holdsName holderOf isEmpty victimBy victimAt usedIn writtenBack filled noted inserted performedAt wayByHome wayBy wayOf unreached mayWrite byTable tooLarge alignedTo markOf performedOn accessedBy usesBy accessed userTable userAccess step
   does-load-seven h = record { does = rw (fits, h) }
 
 memory1-first : lineOf memory1 256 ≡ lineWith 0

@@ -1,6 +1,6 @@
 -- "At no moment are two cached lines copies of one physical line" (demand 3): where this is more than arithmetic.
--- With 256 lines or fewer a line and its copy would have one place. With 512 lines a board can hold two copies, and it is what map
--- drops that keeps a run from it.
+-- With 256 lines or fewer a line and its copy would have one place, which in 01's edition is one record. With 512 lines a board can hold two copies,
+-- and it is what map drops that keeps a run from it.
 use Prim.Native.Nat.{ℕ, _%_, _≤_}
 use mathlib.Core.Path.{_≡_}
 use mathlib.Core.Bool.{true}
@@ -17,7 +17,7 @@ use Rattle.lines.specs.Records.{lineAt, putLine, noLine, newLine, changedLine}
 use Rattle.lines.specs.Holds.{holdsAt}
 use Rattle.lines.specs.declared.Line.{Line}
 use Rattle.stores.specs.Stores.{Store}
-use Rattle.machine.specs.Boards.{ways, Board, board, fresh, noTag, withPages}
+use Rattle.machine.specs.Boards.{Board, board, fresh, noTag, withPages}
 use Rattle.machine.specs.Calls.{zeroedStore}
 use Rattle.promises.specs.Runs.{access, attach, map, Call, supervisor, after}
 use Rattle.promises.specs.Sound.{ShapeHolds, LinesMapped, LinesOnce}
@@ -28,22 +28,22 @@ use Rattle.example_runs.specs.Examples.{load, answers}
 -- each held line is as far into its page as its physical line is into its frame
 abbrev pub LinesInStep : Shape → Store → Type 0
 LinesInStep s x =
-    (i : ℕ) → holdsAt ways s (x .records) i ≡ true → lineAt (x .records) i .name % pageLines ≡ lineAt (x .records) i .physical % pageLines
+    (i : ℕ) → holdsAt s (x .records) i ≡ true → lineAt (x .records) i .name % pageLines ≡ lineAt (x .records) i .physical % pageLines
 
 -- a line whose name maps to its physical line is so, under prefix 1 too; this speaks of the record alone, so it stays so whatever is mapped later
 abbrev pub MappedInStep : Type 0
 MappedInStep = (s : Shape) (words : List ℕ) (x : Store) → LinesMapped s words x → LinesInStep s x
 
--- two names of one physical line then have one place, if there are no more places than lines in a page: no physical line is held twice,
--- whatever is mapped and whatever map and unmap left in the cache
+-- two names of one physical line then have one place, if there are no more places than lines in a page: with one line in a set no physical line is
+-- held twice, whatever is mapped and whatever map and unmap left in the cache. (A set of four has room for both.)
 abbrev pub FewLinesOnce : Type 0
-FewLinesOnce = (s : Shape) (x : Store) → limitsHold s ≡ true → s .lines ≤ pageLines → LinesInStep s x → LinesOnce s x
+FewLinesOnce = (s : Shape) (x : Store) → limitsHold s ≡ true → s .ways ≡ 1 → s .lines ≤ pageLines → LinesInStep s x → LinesOnce s x
 
 -- ---- 512 lines
 
 -- one frame, one process, 512 lines
 abbrev pub shape : Shape
-shape = record { frames = 1; uncached = 0; processes = 1; lines = 512 }
+shape = record { frames = 1; uncached = 0; processes = 1; lines = 512; ways = 1 }
 
 -- physical line 0 under its prefix 1 name, changed: place 0; and as the first line of page 0x200001: place 256
 abbrev pub directLine : Line

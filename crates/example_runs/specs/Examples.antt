@@ -25,7 +25,7 @@ use Rattle.promises.specs.Demand3.{everHolds, everWrites, Apart, SameFor, repli
 
 -- four frames, the first of them not cached, two processes and two lines, as in 01's session
 abbrev pub shape : Shape
-shape = record { frames = 4; uncached = 1; processes = 2; lines = 2 }
+shape = record { frames = 4; uncached = 1; processes = 2; lines = 2; ways = 1 }
 
 -- every byte of memory is 255
 unfoldable pub memory : List ℕ

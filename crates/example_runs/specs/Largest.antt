@@ -21,7 +21,7 @@ abbrev pub placeBits : ℕ
 placeBits = 16
 
 abbrev pub shape : Shape
-shape = record { frames = 1; uncached = 0; processes = 64; lines = 2 ^ placeBits }
+shape = record { frames = 1; uncached = 0; processes = 64; lines = 2 ^ placeBits; ways = 1 }
 
 abbrev pub lastProcess : ℕ
 lastProcess = shape .processes - 1

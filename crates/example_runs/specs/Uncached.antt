@@ -14,7 +14,7 @@ use Rattle.promises.specs.Brought.{Brought, bring, EachBrings, broughtAfter, br
 
 -- one frame, one process, one line, and U
 abbrev pub withUncached : ℕ → Shape
-withUncached u = record { frames = 1; uncached = u; processes = 1; lines = 1 }
+withUncached u = record { frames = 1; uncached = u; processes = 1; lines = 1; ways = 1 }
 
 -- the board's own U is 0, so its frame may be mapped; the last call brings 1
 abbrev pub ownShape : Shape
@@ -55,7 +55,7 @@ pub record UncachedIsTheBoards : Type 0 where
 
 -- two frames, where the board has one
 abbrev pub unfitShape : Shape
-unfitShape = record { frames = 2; uncached = 0; processes = 1; lines = 1 }
+unfitShape = record { frames = 2; uncached = 0; processes = 1; lines = 1; ways = 1 }
 
 -- after the opening a load with these, and the load again with the board's own: a run that meets the premise of the promises
 abbrev pub mixed : List Brought

@@ -9,11 +9,11 @@ use Rattle.address.specs.Addresses.{global, nameOf}
 use Rattle.address.specs.declared.Effective.{Effective}
 use Rattle.board.specs.declared.Shape.{Shape}
 use Rattle.lines.specs.Records.{lineAt}
-use Rattle.lines.specs.Holds.{placeOf}
+use Rattle.lines.specs.Holds.{placeOf, firstAt}
 use Rattle.lines.specs.declared.Line.{Line}
 use Rattle.stores.specs.Stores.{store, noted}
 use Rattle.stores.specs.declared.Access.{Access}
-use Rattle.machine.specs.Boards.{ways, Board, Fresh, Outcome, outcome, withStore}
+use Rattle.machine.specs.Boards.{Board, Fresh, Outcome, outcome, withStore}
 use Rattle.machine.specs.Accesses.{userGlobal, userAccess}
 use Rattle.machine.specs.Calls as calls
 use Rattle.promises.specs.Runs.{Supervisor, access, attach, detach, map, unmap, protect, flushAll, tag, loadAndMap, dropTag, Call, user, supervisor, supervise, Reply, reply, replies, plainReplies, plainOf}
@@ -143,9 +143,10 @@ passingFor name l = record {
   write = l .write;
 }
 
--- the board on which the line at the place of this name does so
+-- the board on which the first line at the place of this name does so (in 01's edition, that of the runs, the only one)
 abbrev pub passingAt : Shape → Board → ℕ → Board
-passingAt s b name = withStore b (noted (placeOf ways s name) (passingFor name (lineAt (b .store .records) (placeOf ways s name))) (b .store))
+passingAt s b name =
+    let i = firstAt s (placeOf s name) in withStore b (noted i (passingFor name (lineAt (b .store .records) i)) (b .store))
 
 abbrev pub partCompared : Parts
 partCompared = record {

@@ -4,7 +4,6 @@ use mathlib.Core.Path.{_≡_, _∙_, refl, sym, ap}
 use mathlib.Core.Bool.{Bool, true, false, not, _&&_, _||_}
 use mathlib.Core.Logic.{_⊎_, inl, inr}
 use mathlib.Core.List.{List, [], _∷_}
-use native.Mathlib.Nat.{div-one}
 use native.Mathlib.Omega.{arith}
 use lib.ListN.{length}
 use Rattle.address.specs.Addresses.{nameOf}
@@ -23,11 +22,11 @@ use Rattle.stores.specs.Stores.{Store, store, mustWriteBack, Performed, perform
 use Rattle.stores.specs.declared.Access.{Access}
 use Rattle.reach.specs.declared.Way.{Way}
 use Rattle.reach.specs.declared.Way.the-variants.{Held, InMemory, Missing}
-use Rattle.lines.proofs.OneBit.{one-pos}
+use Rattle.lines.specs.Victims.{Uses, victimOf, usedIn}
 use Rattle.reach.proofs.Reach.{way-held}
 use Rattle.machine.specs.Refusals.{row, byTable, isWidth, tooLarge, alignedTo}
-use Rattle.machine.specs.Accesses.{Reached, reached, stopped, reachedBy, performedOn, accessedBy, accessed, memoryAccess}
-use Rattle.line_access.specs.LineAccess.{lineAccess}
+use Rattle.machine.specs.Accesses.{reached, stopped, reachedBy, performedOn, accessedBy, usesBy, Touched, touched, victimFor, accessed, memoryAccess}
+use Rattle.line_access.specs.LineAccess.{refilled, lineAccess}
 use lib.Dec.{eqb, leb}
 use borrow.Author.Tests.{eqb-true, ne-eqb}
 
@@ -132,15 +131,16 @@ module _ (r c m : List ℕ) (p : Physical) (a : Access) where
   memory-loaded x v e f g = rw (g, e, f)
 
 -- an access to a line by the way to it
-unfoldable lineBy : Shape → ℕ → ℕ → Bool → Access → Store → Way → Reached
-lineBy s name offset user a b w =
-    byTable (stopped b) (row 8 (unreached w) ∷ row 9 (user && (a .store && not (mayWrite w))) ∷ []) (accessedBy s name offset a b w)
+unfoldable lineBy : Shape → ℕ → ℕ → ℕ → Bool → Access → Store → Uses → Way → Touched
+lineBy s to name offset user a b uses w =
+    byTable (λ n. touched (stopped b n) uses) (row 8 (unreached w) ∷ row 9 (user && (a .store && not (mayWrite w))) ∷ [])
+    (touched (accessedBy s to name offset a b w) (usesBy s to uses w))
 
 -- the record of a held line is one of the records
-module _ (s : Shape) (words r c m : List ℕ) (name i : ℕ) (write : Bool) (w : Way) (e : w ≡ wayOf 1 s words r name) (k : w ≡ Held i write)
+module _ (s : Shape) (words r c m : List ℕ) (name i : ℕ) (write : Bool) (w : Way) (e : w ≡ wayOf s words r name) (k : w ≡ Held i write)
     (z : Sized s r c m) where
-  held-inside : i < s .lines
-  held-inside = way-held s words r name i write w e k (one-pos (s .lines) (omega arith) (z .one))
+  pub held-inside : i < s .lines
+  held-inside = way-held s words r name i write w e k (z .lined)
 
   pub held-record : 2 * i + 2 ≤ length r
   held-record = omega (arith, held-inside)
@@ -148,44 +148,47 @@ module _ (s : Shape) (words r c m : List ℕ) (name i : ℕ) (write : Bool) (w :
   pub held-bytes : 16 * i + 16 ≤ length c
   held-bytes = omega (arith, held-inside)
 
-module _ (s : Shape) (words r c m : List ℕ) (g : Global) (user : Bool) (a : Access) (w : Way) (e : w ≡ wayOf 1 s words r (nameOf g)) where
-  line-on : lineBy s (nameOf g) (g .0 % 16) user a (store r c m) w ≡ lineAccess s words g user a (store r c m)
+-- an access to a line that isn't held, in the record that it takes
+pub refilled-by : (s : Shape) (r c m : List ℕ) (u : Uses) (name line : ℕ) (write : Bool) (offset : ℕ) (a : Access) (x : Answer) (to : ℕ) (back : Bool)
+    (r₁ c₁ m₁ r₂ c₂ : List ℕ) (u₁ : Uses) → to ≡ victimOf s u r name → u₁ ≡ usedIn s u to
+    → (store r₁ c₁ m₁ ≡ inserted s to name line write (store r c m)) × (back ≡ mustWriteBack s r to)
+    → reached x r₂ c₂ m₁ ≡ performedOn to offset a (markOf false back) (store r₁ c₁ m₁)
+    → touched (reached x r₂ c₂ m₁) u₁ ≡ refilled s name line write offset a (store r c m) u
+unfolding refilled accessedBy usesBy
+refilled-by s r c m u name line write offset a x to back r₁ c₁ m₁ r₂ c₂ u₁ v e f d = rw (e, d, f .0, f .1, v)
+
+module _ (s : Shape) (words r c m : List ℕ) (u : Uses) (g : Global) (user : Bool) (a : Access) (w : Way) (e : w ≡ wayOf s words r (nameOf g)) where
+  line-on : lineBy s (victimFor s u r g) (nameOf g) (g .0 % 16) user a (store r c m) u w ≡ lineAccess s words g user a (store r c m) u
   unfolding lineBy lineAccess accessed
   line-on = rw e
 
-  by : Way → Reached
-  by = lineBy s (nameOf g) (g .0 % 16) user a (store r c m)
+  by : Way → Touched
+  by = lineBy s (victimFor s u r g) (nameOf g) (g .0 % 16) user a (store r c m) u
 
-  pub line-missing : (x : Answer) → w ≡ Missing → x ≡ answer 8 0 0 → reached x r c m ≡ lineAccess s words g user a (store r c m)
+  pub line-missing : (x : Answer) → w ≡ Missing → x ≡ answer 8 0 0 → touched (reached x r c m) u ≡ lineAccess s words g user a (store r c m) u
   unfolding lineBy by byTable unreached
   line-missing x k f = rw f (ap by (sym k) ∙ line-on)
 
   module _ (i : ℕ) (write : Bool) (k : w ≡ Held i write) where
     pub held-reads : (x : Answer) → (user && (a .store && not write)) ≡ true → x ≡ answer 9 0 0
-        → reached x r c m ≡ lineAccess s words g user a (store r c m)
+        → touched (reached x r c m) u ≡ lineAccess s words g user a (store r c m) u
     unfolding lineBy by byTable unreached mayWrite
     held-reads x t f = rw f (simp t at (ap by (sym k)) ∙ line-on)
 
-    pub held-performed : (x : Answer) (r₁ c₁ : List ℕ) → (user && (a .store && not write)) ≡ false
+    pub held-performed : (x : Answer) (r₁ c₁ : List ℕ) (u₁ : Uses) → (user && (a .store && not write)) ≡ false → u₁ ≡ usedIn s u i
         → reached x r₁ c₁ m ≡ performedOn i (g .0 % 16) a (markOf true false) (store r c m)
-        → reached x r₁ c₁ m ≡ lineAccess s words g user a (store r c m)
-    unfolding lineBy by byTable unreached mayWrite accessedBy
-    held-performed x r₁ c₁ t d = d ∙ simp t at (ap by (sym k)) ∙ line-on
+        → touched (reached x r₁ c₁ m) u₁ ≡ lineAccess s words g user a (store r c m) u
+    unfolding lineBy by byTable unreached mayWrite accessedBy usesBy
+    held-performed x r₁ c₁ u₁ t q d = rw (d, q) (simp t at (ap by (sym k)) ∙ line-on)
 
   module _ (line : ℕ) (write : Bool) (k : w ≡ InMemory line write) where
     pub memory-reads : (x : Answer) → (user && (a .store && not write)) ≡ true → x ≡ answer 9 0 0
-        → reached x r c m ≡ lineAccess s words g user a (store r c m)
+        → touched (reached x r c m) u ≡ lineAccess s words g user a (store r c m) u
     unfolding lineBy by byTable unreached mayWrite
     memory-reads x t f = rw f (simp t at (ap by (sym k)) ∙ line-on)
 
-    pub memory-inserted : (x : Answer) (name place : ℕ) (back : Bool) (r₁ c₁ m₁ r₂ c₂ : List ℕ) → (user && (a .store && not write)) ≡ false
-        → name ≡ nameOf g → place ≡ name % s .lines
-        → (store r₁ c₁ m₁ ≡ inserted 1 s place name line write (store r c m)) × (back ≡ mustWriteBack 1 s r place)
-        → reached x r₂ c₂ m₁ ≡ performedOn place (g .0 % 16) a (markOf false back) (store r₁ c₁ m₁)
-        → reached x r₂ c₂ m₁ ≡ lineAccess s words g user a (store r c m)
-    unfolding lineBy by byTable unreached mayWrite accessedBy
-    memory-inserted x name place back r₁ c₁ m₁ r₂ c₂ t n p f d =
-        let q : place ≡ nameOf g % (s .lines / 1) = p ∙ ap (λ (l : ℕ). name % l) (sym (div-one (s .lines))) ∙ ap (λ (i : ℕ). i % (s .lines / 1)) n in
-        d ∙ ap (performedOn place (g .0 % 16) a (markOf false back)) (f .0)
-        ∙ ap (λ (t : Bool). performedOn place (g .0 % 16) a (markOf false t) (inserted 1 s place name line write (store r c m))) (f .1)
-        ∙ rw (q, n) (simp t at (ap by (sym k)) ∙ line-on)
+    pub memory-refilled : (x : Answer) (name : ℕ) (r₂ c₂ m₂ : List ℕ) (u₂ : Uses) → (user && (a .store && not write)) ≡ false → name ≡ nameOf g
+        → touched (reached x r₂ c₂ m₂) u₂ ≡ refilled s name line write (g .0 % 16) a (store r c m) u
+        → touched (reached x r₂ c₂ m₂) u₂ ≡ lineAccess s words g user a (store r c m) u
+    unfolding lineBy by byTable unreached mayWrite refilled
+    memory-refilled x name r₂ c₂ m₂ u₂ t n d = d ∙ (rw n (simp t at (ap by (sym k))) ∙ line-on)

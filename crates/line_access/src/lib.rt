@@ -3,14 +3,15 @@
 ghost use mathlib.Core.Path.{_≡_};
 ghost use Prim.Native.Nat.{_+_, _*_, _/_, _≤_, _<_};
 ghost use lib.ListN.{length};
-ghost use Rattle.address.specs.Layout.{lineBytes};
+ghost use Rattle.address.specs.Layout.{lineBytes, pageLines};
 ghost use Rattle.board.specs.Answers.{markOf};
+ghost use Rattle.board.specs.Shapes.{matricesOf};
 ghost use Rattle.line_bytes.specs.Premises.{Width, InWord};
 ghost use Rattle.stores.specs.Premises.{Sized};
 ghost use Rattle.stores.specs.Lent.{storeBefore, storeAfter};
 ghost use Rattle.machine.specs.Refusals.{tooLarge, alignedTo};
-ghost use Rattle.machine.specs.Accesses.{ended, performedOn, memoryAccess};
-ghost use Rattle.line_access.specs.LineAccess.{lineAccess};
+ghost use Rattle.machine.specs.Accesses.{ended, touched, performedOn, memoryAccess};
+ghost use Rattle.line_access.specs.LineAccess.{refilled, lineAccess};
 use address::Effective;
 use address::Global;
 use address::LINE_BYTES;
@@ -91,6 +92,28 @@ fn perform_on(
     accessed(value, mark_of(held, back))
 }
 
+// An access to a line that isn't held: it is filled in the victim of its set, and used there.
+fn refill_access(
+    s: Shape,
+    records: &mut [u64],
+    cache: &mut [u8],
+    memory: &mut [u8],
+    uses: &mut [[[u8; 4]; 4]],
+    name: u64,
+    line: usize,
+    write: bool,
+    offset: usize,
+    a: Access,
+) -> Answer
+    requires { ⌜ Sized s (now records) (now cache) (now memory) × (length (now uses) ≡ matricesOf s) × (line < pageLines * s .frames) × (offset < lineBytes) × InWord offset (a .width) × Width (a .width) ⌝ }
+    ensures { λ r. ⌜ touched (ended r (storeAfter records cache memory)) (now (uses .exit)) ≡ refilled s name line write offset a (storeBefore records cache memory) (now (uses .entry)) ⌝ }
+{
+    let to = lines::victim_of(s, records, uses, name);
+    lines::note_use(s, uses, to);
+    let back = stores::insert(s, records, cache, memory, to, name, line, write);
+    perform_on(records, cache, memory, to, offset, a, false, back)
+}
+
 // An access to a line, with numbers 8 and 9.
 pub fn line_access(
     s: Shape,
@@ -98,12 +121,13 @@ pub fn line_access(
     records: &mut [u64],
     cache: &mut [u8],
     memory: &mut [u8],
+    uses: &mut [[[u8; 4]; 4]],
     g: Global,
     user: bool,
     a: Access,
 ) -> Answer
-    requires { ⌜ Sized s (now records) (now cache) (now memory) × (length (now words) ≡ s .frames) × Width (a .width) × InWord (g .0) (a .width) ⌝ }
-    ensures { λ r. ⌜ ended r (storeAfter records cache memory) ≡ lineAccess s (now (words .entry)) g user a (storeBefore records cache memory) ⌝ }
+    requires { ⌜ Sized s (now records) (now cache) (now memory) × (length (now uses) ≡ matricesOf s) × (length (now words) ≡ s .frames) × Width (a .width) × InWord (g .0) (a .width) ⌝ }
+    ensures { λ r. ⌜ touched (ended r (storeAfter records cache memory)) (now (uses .exit)) ≡ lineAccess s (now (words .entry)) g user a (storeBefore records cache memory) (now (uses .entry)) ⌝ }
 {
     match reach::way_to(s, words, records, g) {
         Way::Missing => numbered(8),
@@ -111,6 +135,7 @@ pub fn line_access(
             if user & (a.store & !write) {
                 return numbered(9);
             }
+            lines::note_use(s, uses, i);
             let offset = (g.0 % LINE_BYTES) as usize;
             perform_on(records, cache, memory, i, offset, a, true, false)
         }
@@ -119,11 +144,19 @@ pub fn line_access(
                 return numbered(9);
             }
             let name = g.name();
-            let lines = s.lines;
-            let place = lines::place_of(lines, name);
-            let back = stores::insert(s, records, cache, memory, place, name, line, write);
             let offset = (g.0 % LINE_BYTES) as usize;
-            perform_on(records, cache, memory, place, offset, a, false, back)
+            refill_access(
+                s,
+                records,
+                cache,
+                memory,
+                uses,
+                name,
+                line,
+                write,
+                offset,
+                a,
+            )
         }
     }
 }

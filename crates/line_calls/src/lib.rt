@@ -8,9 +8,8 @@ ghost use Rattle.lines.specs.Holds.{keeperOf};
 ghost use Rattle.stores.specs.Stores.{current};
 ghost use Rattle.stores.specs.Lent.{storeBefore};
 ghost use Rattle.stores.specs.Premises.{Sized};
-ghost use Rattle.machine.specs.Boards.{ways};
 ghost use Rattle.machine.specs.Looks.{startBy};
-ghost use Rattle.machine.specs.Contracts.{before, after, FlushAll, LookNumber, Look};
+ghost use Rattle.machine.specs.Contracts.{setsBefore, setsAfter, FlushAll, LookNumber, Look};
 use board::Answer;
 use board::Found;
 use board::LINE_BYTES;
@@ -26,8 +25,9 @@ pub fn flush_all(
     records: &mut [u64],
     cache: &[u8],
     memory: &mut [u8],
+    uses: &[[[u8; 4]; 4]],
 ) -> Answer
-    ensures { λ r. ⌜ ((tag : Pending) → FlushAll s (before slots words records cache memory tag) r (after slots words records cache memory tag)) ⌝ }
+    ensures { λ r. ⌜ ((tag : Pending) → FlushAll s (setsBefore slots words records cache memory uses tag) r (setsAfter slots words records cache memory uses tag)) ⌝ }
 {
     if board::fits(
         s,
@@ -36,6 +36,7 @@ pub fn flush_all(
         records.len(),
         cache.len(),
         memory.len(),
+        uses.len(),
     ) {
         visits::visit_names(s, records, cache, memory, visits::of_flush());
         numbered(0)
@@ -52,9 +53,10 @@ pub fn look_number(
     records: &[u64],
     cache: &[u8],
     memory: &[u8],
+    uses: &[[[u8; 4]; 4]],
     line: usize,
 ) -> u32
-    ensures { λ r. ⌜ ((tag : Pending) → LookNumber s (before slots words records cache memory tag) line r) ⌝ }
+    ensures { λ r. ⌜ ((tag : Pending) → LookNumber s (setsBefore slots words records cache memory uses tag) line r) ⌝ }
 {
     if board::fits(
         s,
@@ -63,6 +65,7 @@ pub fn look_number(
         records.len(),
         cache.len(),
         memory.len(),
+        uses.len(),
     ) {
         if line < PAGE_LINES * s.frames {
             return 0;
@@ -82,7 +85,7 @@ fn current_part<'a>(
     line: usize,
 ) -> &'a [u8]
     requires { ⌜ Sized s (now records) (now cache) (now memory) × (line < pageLines * s .frames) ⌝ }
-    ensures { λ r. ⌜ (now r ≡ current ways s (storeBefore records cache memory) line) × (ptr r ≡ startBy (ptr (cache .entry)) (ptr (memory .entry)) line (keeperOf ways s (now (records .entry)) line)) ⌝ }
+    ensures { λ r. ⌜ (now r ≡ current s (storeBefore records cache memory) line) × (ptr r ≡ startBy (ptr (cache .entry)) (ptr (memory .entry)) line (keeperOf s (now (records .entry)) line)) ⌝ }
 {
     match lines::keeper_of(s, records, line) {
         Found::At(i) => {
@@ -104,9 +107,10 @@ pub fn look<'a>(
     records: &[u64],
     cache: &'a [u8],
     memory: &'a [u8],
+    uses: &[[[u8; 4]; 4]],
     line: usize,
 ) -> &'a [u8]
-    ensures { λ r. ⌜ ((tag : Pending) → Look s (before slots words records cache memory tag) line (cache .entry) (memory .entry) r) ⌝ }
+    ensures { λ r. ⌜ ((tag : Pending) → Look s (setsBefore slots words records cache memory uses tag) line (cache .entry) (memory .entry) r) ⌝ }
 {
     if board::fits(
         s,
@@ -115,6 +119,7 @@ pub fn look<'a>(
         records.len(),
         cache.len(),
         memory.len(),
+        uses.len(),
     ) {
         if line < PAGE_LINES * s.frames {
             return current_part(s, records, cache, memory, line);

@@ -1,3 +1,4 @@
 pub mod OneBit
 pub mod Records
+pub mod Sets
 pub mod Holders

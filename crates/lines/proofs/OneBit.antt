@@ -8,7 +8,7 @@ use lib.Pow.{pow-mono, pow-pos}
 use lib.Count.{ones, onesIn, ones-step, ones-cat, ones-le, trailingZeros, under}
 
 -- a digit is 0 or 1
-digit : (n : ℕ) → (n % 2 ≡ 0) ⊎ (n % 2 ≡ 1)
+pub digit : (n : ℕ) → (n % 2 ≡ 0) ⊎ (n % 2 ≡ 1)
 digit n = go (n % 2) (omega arith)
   where
     go : (d : ℕ) → d < 2 → (d ≡ 0) ⊎ (d ≡ 1)
@@ -17,7 +17,7 @@ digit n = go (n % 2) (omega arith)
     go (suc (suc d)) h = absurd (omega arith)
 
 -- a number of k digits with none of them set is 0
-none-set : (k n : ℕ) → n < 2 ^ k → ones n ≡ 0 → n ≡ 0
+pub none-set : (k n : ℕ) → n < 2 ^ k → ones n ≡ 0 → n ≡ 0
 none-set zero n h e = omega arith
 none-set (suc k) n h e =
     let r : n / 2 ≡ 0 = none-set k (n / 2) (omega (arith, pow-suc 2 k)) (omega (arith, ones-step n)) in

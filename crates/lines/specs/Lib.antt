@@ -1,2 +1,4 @@
 pub mod Records
 pub mod Holds
+pub mod Victims
+pub mod Premises

@@ -3,7 +3,6 @@ use Prim.Native.Nat.{ℕ, _+_, _*_, _/_, _%_, _≤_, _<_}
 use mathlib.Core.Path.{_≡_, _∙_, refl, sym, ap}
 use mathlib.Core.Bool.{Bool, true, false, not, cond}
 use mathlib.Core.List.{List}
-use native.Mathlib.Nat.{div-one}
 use native.Mathlib.Omega.{arith}
 use lib.Dec.{ltb}
 use lib.ListN.{length, getD}
@@ -18,9 +17,10 @@ use Rattle.board.specs.declared.Found.{Found}
 use Rattle.board.specs.declared.Found.the-variants.{At, Nothing}
 use Rattle.stores.specs.Stores.{store, inserted}
 use Rattle.lines.specs.Holds.{holderOf}
-use Rattle.machine.specs.Boards.{Board, board, Outcome, outcome, refused, done, noTag, withTag, withStore}
+use Rattle.lines.specs.Victims.{Uses, victimOf, roomBy, roomFor, usedIn}
+use Rattle.machine.specs.Boards.{Board, setsBoard, Outcome, outcome, refused, done, noTag, withTag}
 use Rattle.machine.specs.Refusals.{byTable, isMapped}
-use Rattle.machine.specs.Calls.{foundFrame, nameWrites, loadRows, loadedBy, loaded, loadAndMap}
+use Rattle.machine.specs.Calls.{foundFrame, nameWrites, loadRows, loadedBy, loadedUses, Loaded, loadedWith, loaded, onLoaded, loadAndMap}
 use Rattle.machine.proofs.Tables.{table-map}
 use Rattle.load_call.specs.Checks.{loadFrame, loadCheck}
 use Rattle.load_call.specs.declared.Load.{Load}
@@ -70,21 +70,32 @@ module _ (s : Shape) (words : List ℕ) (pending : Pending) (line : ℕ) where
 
 -- ---- the line
 
-module _ (s : Shape) (r c m : List ℕ) (name line : ℕ) (write : Bool) (found : Found) (e : found ≡ holderOf 1 s r name) where
-  loaded-on : loadedBy s name line write (store r c m) found ≡ loaded s name line write (store r c m)
-  unfolding loaded
-  loaded-on = rw e
+module _ (s : Shape) (r c m : List ℕ) (u : Uses) (name line : ℕ) (write : Bool) where
+  abbrev v : ℕ
+  v = victimOf s u r name
 
-  pub loaded-held : (i : ℕ) → found ≡ At i → store r c m ≡ loaded s name line write (store r c m)
-  unfolding loadedBy
-  loaded-held i k = ap (loadedBy s name line write (store r c m)) (sym k) ∙ loaded-on
+  by : Found → Loaded
+  by f = loadedWith (loadedBy s v name line write (store r c m) f) (loadedUses s v u f)
 
-  pub loaded-new : (place : ℕ) (r₁ c₁ m₁ : List ℕ) → found ≡ Nothing → place ≡ name % s .lines
-      → store r₁ c₁ m₁ ≡ inserted 1 s place name line write (store r c m) → store r₁ c₁ m₁ ≡ loaded s name line write (store r c m)
-  unfolding loadedBy
-  loaded-new place r₁ c₁ m₁ k p g =
-      let z : name % s .lines ≡ name % (s .lines / 1) = simp div-one in
-      g ∙ (rw (p, z) (ap (loadedBy s name line write (store r c m)) (sym k) ∙ loaded-on))
+  held-by : (f : Found) → roomBy v f ≡ Nothing → loadedWith (store r c m) u ≡ by f
+  unfolding roomBy loadedBy loadedUses by
+  held-by (At i) e = refl
+  held-by Nothing e = absurd (let z : _≡_ {A = ℕ} 0 1 = cc in omega arith)
+
+  new-by : (f : Found) (to : ℕ) → roomBy v f ≡ At to → loadedWith (inserted s to name line write (store r c m)) (usedIn s u to) ≡ by f
+  unfolding roomBy loadedBy loadedUses by
+  new-by (At i) to e = absurd (let z : _≡_ {A = ℕ} 0 1 = cc in omega arith)
+  new-by Nothing to e = let z : to ≡ v = cc in rw z
+
+  module _ (room : Found) (e : room ≡ roomFor s u r name) where
+    pub loaded-held : room ≡ Nothing → loadedWith (store r c m) u ≡ loaded s name line write (store r c m) u
+    unfolding loaded by
+    loaded-held k = held-by (holderOf s r name) (sym e ∙ k)
+
+    pub loaded-new : (to : ℕ) (r₁ c₁ m₁ : List ℕ) (u₁ : Uses) → room ≡ At to → u₁ ≡ usedIn s u to
+        → store r₁ c₁ m₁ ≡ inserted s to name line write (store r c m) → loadedWith (store r₁ c₁ m₁) u₁ ≡ loaded s name line write (store r c m) u
+    unfolding loaded by
+    loaded-new to r₁ c₁ m₁ u₁ k q g = rw (g, q) (new-by (holderOf s r name) to (sym e ∙ k))
 
 -- ---- the returns
 
@@ -93,27 +104,29 @@ byLoad : {A : Type 0} → (ℕ → A) → (Bool → A) → Load → A
 byLoad refuse go (Refuse n) = refuse n
 byLoad refuse go (Fill write) = go write
 
-module _ (s : Shape) (slots w r c m : List ℕ) (pending pending₁ : Pending) (t : Bool)
-    (f : t ≡ fitsShape s (length slots) (length w) (length r) (length c) (length m)) (h : t ≡ true) (a : Answer) (line : ℕ)
+module _ (s : Shape) (slots w r c m : List ℕ) (u : Uses) (pending pending₁ : Pending) (t : Bool)
+    (f : t ≡ fitsShape s (length slots) (length w) (length r) (length c) (length m) (length u)) (h : t ≡ true) (a : Answer) (line : ℕ)
     (k : Load) (e : k ≡ loadCheck s w pending line) where
   abbrev b : Board
-  b = board slots w r c m pending
+  b = setsBoard slots w r c m u pending
 
   abbrev go : Bool → Outcome
-  go write = done (withTag (withStore b (loaded s (pending .name) line write (store r c m))) noTag)
+  go write = done (withTag (onLoaded b (loaded s (pending .name) line write (store r c m) u)) noTag)
 
   load-on : byLoad (refused b) go k ≡ loadAndMap s b line
   unfolding loadAndMap loadCheck byLoad
   load-on =
       rw e (table-map (byLoad (refused b) go) Refuse (loadRows s w pending line) (Fill (nameWrites s w (pending .name)))
-      ∙ fit-table s slots w r c m t f h (refused b) pending _ _)
+      ∙ fit-table s slots w r c m u t f h (refused b) pending _ _)
 
   pub load-refused : (n : ℕ) → k ≡ Refuse n → a ≡ answer n 0 0 → pending₁ ≡ pending
-      → outcome a (board slots w r c m pending₁) ≡ loadAndMap s b line
+      → outcome a (setsBoard slots w r c m u pending₁) ≡ loadAndMap s b line
   unfolding byLoad
   load-refused n j q p = rw (q, p) (ap (byLoad (refused b) go) (sym j) ∙ load-on)
 
-  pub load-done : (write : Bool) (r₁ c₁ m₁ : List ℕ) → k ≡ Fill write → store r₁ c₁ m₁ ≡ loaded s (pending .name) line write (store r c m)
-      → a ≡ answer 0 0 0 → pending₁ ≡ noTag → outcome a (board slots w r₁ c₁ m₁ pending₁) ≡ loadAndMap s b line
+  pub load-done : (write : Bool) (r₁ c₁ m₁ : List ℕ) (u₁ : Uses) → k ≡ Fill write
+      → loadedWith (store r₁ c₁ m₁) u₁ ≡ loaded s (pending .name) line write (store r c m) u → a ≡ answer 0 0 0 → pending₁ ≡ noTag
+      → outcome a (setsBoard slots w r₁ c₁ m₁ u₁ pending₁) ≡ loadAndMap s b line
   unfolding byLoad
-  load-done write r₁ c₁ m₁ j d q p = rw (q, p, d) (ap (byLoad (refused b) go) (sym j) ∙ load-on)
+  load-done write r₁ c₁ m₁ u₁ j d q p =
+      rw (q, p) (ap (λ (x : Loaded). done (withTag (onLoaded b x) noTag)) d ∙ ap (byLoad (refused b) go) (sym j) ∙ load-on)

@@ -47,9 +47,9 @@ abbrev pub callOf : List ℕ → Call
 callOf [] = supervisor flushAll
 callOf (kind ∷ l) = getD (callsWith l) kind (supervisor flushAll)
 
--- the board of a header
-abbrev pub shapeOf : List ℕ → Shape
-shapeOf l = record { frames = getD l 1 0; uncached = getD l 2 0; processes = getD l 3 0; lines = getD l 4 0 }
+-- the board of a header, with so many lines in a set, as a log carries no edition
+abbrev pub shapeOf : ℕ → List ℕ → Shape
+shapeOf ways l = record { frames = getD l 1 0; uncached = getD l 2 0; processes = getD l 3 0; lines = getD l 4 0; ways = ways }
 
 -- ---- a call's entry
 
@@ -93,7 +93,7 @@ call-back (supervisor (loadAndMap line)) = refl
 call-back (supervisor dropTag) = refl
 
 -- and a header its board
-pub shape-back : (s : Shape) → shapeOf (headerOf s) ≡ s
+pub shape-back : (s : Shape) → shapeOf (s .ways) (headerOf s) ≡ s
 unfolding headerOf
 shape-back s = refl
 
@@ -172,7 +172,7 @@ entry-back (entry {kind = suc k} {fields = l} t n f) =
     let below : suc k < length fieldsByKind = ltb-true (suc k) (length fieldsByKind) (and-right (not (eqb (suc k) 0)) (ltb (suc k) (length fieldsByKind)) t) in
     each-list (length (fieldsOf (suc k))) (IsOf (suc k)) (of-kinds k below) l n f
 
--- and a header is a board's
-pub header-back : (l : List ℕ) → length l ≡ length (fieldsOf 0) → headerOf (shapeOf (0 ∷ l)) ≡ 0 ∷ l
+-- and a header is that of a board of 01's edition
+pub header-back : (l : List ℕ) → length l ≡ length (fieldsOf 0) → headerOf (shapeOf 1 (0 ∷ l)) ≡ 0 ∷ l
 unfolding headerOf fieldsOf
-header-back l n = each-list 4 (λ r. headerOf (shapeOf (0 ∷ r)) ≡ 0 ∷ r) (λ frames uncached processes lines. refl) l n
+header-back l n = each-list 4 (λ r. headerOf (shapeOf 1 (0 ∷ r)) ≡ 0 ∷ r) (λ frames uncached processes lines. refl) l n

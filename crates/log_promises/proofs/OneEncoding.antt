@@ -11,10 +11,10 @@ use Rattle.log_numbers.specs.Numbers.{bytesOf}
 use Rattle.log_entries.specs.Entries.{isWhole, fieldsOf}
 use Rattle.log_reader.specs.Reading.{Log, readLog}
 use Rattle.promises.specs.Runs.{Call}
-use Rattle.log_promises.specs.Calls.{Loggable, LoggableShape, AllLoggable, none, also, entryOf, headerOf, entryFits, fieldsFit, logOf, entriesOf}
+use Rattle.log_promises.specs.Calls.{Loggable, LoggableShape, AllLoggable, none, also, entryOf, headerOf, entryFits, fieldsFit, headerBytes, logOf, entriesOf}
 use Rattle.log_promises.specs.Written.{Logged, OneEncoding}
 use Rattle.log_promises.specs.Places.{Come, start, grows, ends}
-use Rattle.log_promises.proofs.Decoded.{callOf, shapeOf, call-back, shape-back, IsEntry, entry, entry-back, header-back}
+use Rattle.log_promises.proofs.Decoded.{callOf, shapeOf, call-back, IsEntry, entry, entry-back, header-back}
 use Rattle.log_promises.proofs.Written.{numbersOf, headerNumbers, logNumbers, log-bytes, written-is-read}
 use Rattle.log_promises.proofs.Entered.{isHeaded, isFull, OneMore, number-says}
 use Rattle.log_promises.proofs.Refusals.{wrong-reason, refused-read}
@@ -56,8 +56,8 @@ entry-whole (kind ∷ fields) h w f = entry h (eqb-true (length fields) (length 
 header-told : (l : List ℕ) → isFull (0 ∷ l) ≡ true → entryFits (0 ∷ l) ≡ true → Told l ((0 ∷ l) ∷ []) []
 unfolding isWhole headerOf entriesOf entryFits
 header-told l w f =
-    let q : headerOf (shapeOf (0 ∷ l)) ≡ 0 ∷ l = header-back l (eqb-true (length l) (length (fieldsOf 0)) w) in
-    running (shapeOf (0 ∷ l)) [] (ap entryFits q ∙ f) none (ap (drop 1) (sym q)) (ap (λ (e : List ℕ). e ∷ []) (sym q)) refl refl
+    let q : headerOf (shapeOf 1 (0 ∷ l)) ≡ 0 ∷ l = header-back l (eqb-true (length l) (length (fieldsOf 0)) w) in
+    running (shapeOf 1 (0 ∷ l)) [] (ap entryFits q ∙ f) none (ap (drop 1) (sym q)) (ap (λ (e : List ℕ). e ∷ []) (sym q)) refl refl
 
 -- a whole call after others
 call-told : (s : Shape) (ks : List Call) (e : List ℕ) → LoggableShape s → AllLoggable ks → isHeaded e ≡ true → isFull e ≡ true → entryFits e ≡ true
@@ -111,9 +111,9 @@ logged bytes h (right {ns = ns} c q) = go (told c)
         record { shape = s; calls = ks; fits = fs; all-fit = all; written = w; read = rw w (written-is-read .same-calls s ks fs all) }
 logged bytes h (wrong r) = absurd (wrong-reason (r .wrong) (sym (ap (λ (x : Log). x .reason) (refused-read r)) ∙ h))
 
--- the log of entries
+-- the log of entries, as of a board of 01's edition
 logFrom : List (List ℕ) → List ℕ
-logFrom es = logOf (shapeOf (getD es 0 [])) (map callOf (drop 1 es))
+logFrom es = logOf (shapeOf 1 (getD es 0 [])) (map callOf (drop 1 es))
 
 -- entries give their calls back
 calls-back : (ks : List Call) → map callOf (entriesOf ks) ≡ ks
@@ -121,11 +121,10 @@ unfolding entriesOf
 calls-back [] = refl
 calls-back (k ∷ ks) = ap₂ (λ (j : Call) (l : List Call). j ∷ l) (call-back k) (calls-back ks)
 
--- and a log's entries the log
+-- and a log's entries the log, whatever the edition
 logged-from : (bytes : List ℕ) → Logged bytes → bytes ≡ logFrom (readLog bytes .entries)
-unfolding logFrom
-logged-from bytes x =
-    x .written ∙ sym (ap logFrom (x .read .entries) ∙ ap₂ logOf (shape-back (x .shape)) (calls-back (x .calls)))
+unfolding logFrom headerOf headerBytes logOf
+logged-from bytes x = x .written ∙ sym (ap logFrom (x .read .entries) ∙ ap (logOf (x .shape)) (calls-back (x .calls)))
 
 -- the promise
 pub one-encoding : OneEncoding

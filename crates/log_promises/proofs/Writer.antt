@@ -265,10 +265,10 @@ flag-bit (suc zero) h = refl
 flag-bit (suc (suc n)) h = absurd (omega arith)
 
 module _ (a b c d f : ℕ) where
-  -- by the kind: the call that has these words
+  -- by the kind: the call that has these words, or the board, of 01's edition
   split-holds : (kind : ℕ) → kind < length fieldsByKind → Split kind (a ∷ b ∷ c ∷ d ∷ f ∷ []) → Holds (entryOn (kind ∷ a ∷ b ∷ c ∷ d ∷ f ∷ []))
   unfolding entryOf headerOf entryFits fieldsOf most mostOf
-  split-holds zero l s = header (record { frames = a; uncached = b; processes = c; lines = d }) (s .fits) (s .words)
+  split-holds zero l s = header (record { frames = a; uncached = b; processes = c; lines = d; ways = 1 }) (s .fits) (s .words)
   split-holds (suc zero) l s =
       let q = flag-bit b (s .each 1) in
       call (user a (record { store = isYes b; width = c; value = f }) (effective d)) (rw q (s .fits)) (rw q (s .words))

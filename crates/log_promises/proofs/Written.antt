@@ -1,6 +1,6 @@
 -- CR 1, "Written then read gives the same calls": the numbers of a log come to its header and its calls, so their bytes are read as those.
 use Prim.Native.Nat.{ℕ, zero, suc, _+_, _*_, _/_, _%_, _^_, _<_, _≤_}
-use mathlib.Core.Path.{_≡_, _∙_, refl, sym, ap}
+use mathlib.Core.Path.{_≡_, _∙_, refl, sym, ap, ap₂}
 use mathlib.Core.Bool.{Bool, true, false, not, cond}
 use mathlib.Core.List.{List, [], _∷_, _++_, append-assoc, append-nil}
 use native.Mathlib.Nat.{pow-suc}
@@ -150,5 +150,5 @@ written-is-read = record {
   to-its-end = λ s ks f all. ap (λ (x : Log). x .place) (log-reads s ks f all);
   are-bytes = λ s ks f all. rw (log-bytes s ks) at (come-bytes (log-comes s ks f all));
   calls-apart = λ k k′ e. sym (call-back k) ∙ ap callOf e ∙ call-back k′;
-  shapes-apart = λ s s′ e. sym (shape-back s) ∙ ap shapeOf e ∙ shape-back s′;
+  shapes-apart = λ s s′ w e. sym (shape-back s) ∙ ap₂ shapeOf w e ∙ shape-back s′;
 }

@@ -15,7 +15,7 @@ use Rattle.log_promises.specs.Pieces.{Piece, inPieces, fedLog}
 
 -- a board with F 4, U 1, P 2, L 2
 abbrev pub board : Shape
-board = record { frames = 4; uncached = 1; processes = 2; lines = 2 }
+board = record { frames = 4; uncached = 1; processes = 2; lines = 2; ways = 1 }
 
 -- page 0x200000 to frame 1, writable; segment 2048 to slot 3 of process 1, not writable; process 0 stores 50 with width 4 at 5
 abbrev pub calls : List Call

@@ -26,9 +26,9 @@ pub record WrittenIsRead : Type 1 where
   pub to-its-end : (s : Shape) (ks : List Call) → LoggableShape s → AllLoggable ks → readLog (logOf s ks) .place ≡ length (logOf s ks)
   -- it is bytes
   pub are-bytes : (s : Shape) (ks : List Call) → LoggableShape s → AllLoggable ks → Bytes (logOf s ks)
-  -- entries tell calls, and headers boards
+  -- entries tell calls, and headers boards of one edition: a log carries no edition
   pub calls-apart : (k k′ : Call) → entryOf k ≡ entryOf k′ → k ≡ k′
-  pub shapes-apart : (s s′ : Shape) → headerOf s ≡ headerOf s′ → s ≡ s′
+  pub shapes-apart : (s s′ : Shape) → s .ways ≡ s′ .ways → headerOf s ≡ headerOf s′ → s ≡ s′
 
 -- a log that isn't refused: the board and the calls that it is the log of
 pub record Logged (bytes : List ℕ) : Type 0 where

@@ -11,7 +11,7 @@ use Rattle.board.specs.declared.Shape.{Shape}
 use Rattle.board.specs.declared.Found.{Found}
 use Rattle.board.specs.declared.Found.the-variants.{At, Nothing}
 use Rattle.lines.specs.Holds.{keeperOf}
-use Rattle.machine.specs.Boards.{ways, Board}
+use Rattle.machine.specs.Boards.{Board}
 use Rattle.machine.specs.Refusals.{byTable}
 use Rattle.machine.specs.Looks.{lookTable, lookNumber, look}
 
@@ -28,7 +28,7 @@ placeBy line (At i) = lineBytes * i
 placeBy line Nothing = inMemory + lineBytes * line
 
 unfoldable pub lookPlace : Shape → Board → ℕ → ℕ
-lookPlace s b line = byTable (λ n. nowhere) (lookTable s b line) (placeBy line (keeperOf ways s (b .store .records) line))
+lookPlace s b line = byTable (λ n. nowhere) (lookTable s b line) (placeBy line (keeperOf s (b .store .records) line))
 
 -- the contract of look for C and Rust
 abbrev pub LookPlace : Shape → Board → ℕ → ℕ → Type 0

@@ -24,6 +24,7 @@ fn shape(frames: usize) -> Shape {
         uncached: 1,
         processes: 2,
         lines: 2,
+        ways: 1,
     }
 }
 
@@ -58,10 +59,29 @@ fn look<'a>(
     memory: &'a [u8],
     line: usize,
 ) {
-    let number = line_calls::look_number(shape(frames), slots, words, records, cache, memory, line);
+    let none: [[[u8; 4]; 4]; 0] = [];
+    let number = line_calls::look_number(
+        shape(frames),
+        slots,
+        words,
+        records,
+        cache,
+        memory,
+        &none,
+        line,
+    );
     write_field(line as u64, b" ");
     write_field(number as u64, b" ");
-    write_part(line_calls::look(shape(frames), slots, words, records, cache, memory, line));
+    write_part(line_calls::look(
+        shape(frames),
+        slots,
+        words,
+        records,
+        cache,
+        memory,
+        &none,
+        line,
+    ));
 }
 
 // Process 0 loads or stores a byte, and the page's first line is looked at.
@@ -74,6 +94,7 @@ fn turn(
     store: bool,
     address: u32,
 ) {
+    let mut none: [[[u8; 4]; 4]; 0] = [];
     user_access::user_access(
         shape(4),
         slots,
@@ -81,6 +102,7 @@ fn turn(
         records,
         cache,
         memory,
+        &mut none,
         Pending {
             set: false,
             name: 0,
@@ -112,7 +134,8 @@ fn stored(slots: &[u32], words: &[u64], records: &mut [u64], cache: &mut [u8], m
 
 // Flushed, and its place taken by the line at 32: the part is memory's.
 fn flushed(slots: &[u32], words: &[u64], records: &mut [u64], cache: &mut [u8], memory: &mut [u8]) {
-    line_calls::flush_all(shape(4), slots, words, records, cache, memory);
+    let none: [[[u8; 4]; 4]; 0] = [];
+    line_calls::flush_all(shape(4), slots, words, records, cache, memory, &none);
     turn(slots, words, records, cache, memory, false, 32);
     write_byte(b"in the cache ", cache, 3);
 }

@@ -21,7 +21,6 @@ use Rattle.board.proofs.Bools.{or-false}
 use Rattle.pages.proofs.Frames.{mapped-none, direct-some, home-direct}
 use Rattle.reach.specs.Reach.{wayByHome, wayBy, wayOf, unreached}
 use Rattle.lines.specs.Holds.{holderOf}
-use Rattle.machine.specs.Boards.{ways}
 use Rattle.machine.specs.Refusals.{wordInUse, outside}
 use Rattle.machine.specs.Accesses.{wayTo, frameUnder}
 
@@ -74,11 +73,11 @@ module _ (s : Shape) (words : List ℕ) (g : Global) (p : prefixOf g ≡ 1) wher
       (direct-some s words (nameOf g) true (sym (prefix-free u o)) (omega arith) refl)
 
   module _ (records : List ℕ) (u : wordInUse words (frameUnder g) ≡ false) (o : outside s (frameUnder g) Cached ≡ false) where
-    found-reached : (found : Found) → unreached (wayBy s words records (nameOf g) found) ≡ false
+    found-reached : (found : Found) → unreached (wayBy records (homeOf s words (nameOf g)) found) ≡ false
     unfolding wayBy unreached wayByHome
     found-reached (At i) = refl
     found-reached Nothing = ap (λ (h : Home). unreached (wayByHome h)) (sym (prefix-home u o))
 
     pub prefix-reached : unreached (wayTo s words records g) ≡ false
     unfolding wayOf
-    prefix-reached = found-reached (holderOf ways s records (nameOf g))
+    prefix-reached = found-reached (holderOf s records (nameOf g))

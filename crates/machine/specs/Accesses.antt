@@ -17,12 +17,12 @@ use Rattle.board.specs.declared.Pending.{Pending}
 use Rattle.board.specs.declared.Answer.{Answer}
 use Rattle.line_bytes.specs.Bytes.{number, stored}
 use Rattle.stores.specs.Stores.{Store, store, mustWriteBack, inserted, Performed, performedAt}
-use Rattle.lines.specs.Holds.{placeOf}
+use Rattle.lines.specs.Victims.{Uses, victimOf, usedIn}
 use Rattle.reach.specs.Reach.{wayOf, unreached}
 use Rattle.stores.specs.declared.Access.{Access}
 use Rattle.reach.specs.declared.Way.{Way}
 use Rattle.reach.specs.declared.Way.the-variants.{Held, InMemory, Missing}
-use Rattle.machine.specs.Boards.{ways, Board, Outcome, outcome, refused, withStore}
+use Rattle.machine.specs.Boards.{Board, Outcome, outcome, refused, withUse}
 use Rattle.machine.specs.Refusals.{Row, row, byTable, row1, isProcess, isGlobal, tooLarge, alignedTo, slotRows, lineRows, wordInUse, isOrdinary, isCached, outside}
 
 -- ---- an access to a line
@@ -48,26 +48,45 @@ reachedBy p memory mark = reached (answer 0 (p .value) mark) (p .records) (p .ca
 unfoldable pub performedOn : ℕ → ℕ → Access → ℕ → Store → Reached
 performedOn i offset a mark b = reachedBy (performedAt i offset a (b .records) (b .cache)) (b .memory) mark
 
--- a held line is used as it is; else the line is filled at its place with the page's present permission. The mark goes by the records before
--- the call: whether the line is held, and whether the line at its place must be written back.
+-- a held line is taken as it is; else the line is filled in the record `to` with the page's present permission. The mark goes by the records before
+-- the call (and by the matrices, where they pick that record): whether the line is held, and whether the line of that record must be written back.
 -- (A line that is nowhere has been refused, by row 8 or under prefix 1 by row 10 or 12, so the last clause is never asked.)
-unfoldable pub accessedBy : Shape → ℕ → ℕ → Access → Store → Way → Reached
-accessedBy s name offset a b (Held i write) = performedOn i offset a (markOf true false) b
-accessedBy s name offset a b (InMemory line write) =
-    performedOn (placeOf ways s name) offset a (markOf false (mustWriteBack ways s (b .records) (placeOf ways s name)))
-    (inserted ways s (placeOf ways s name) name line write b)
-accessedBy s name offset a b Missing = stopped b 8
+unfoldable pub accessedBy : Shape → ℕ → ℕ → ℕ → Access → Store → Way → Reached
+accessedBy s to name offset a b (Held i write) = performedOn i offset a (markOf true false) b
+accessedBy s to name offset a b (InMemory line write) =
+    performedOn to offset a (markOf false (mustWriteBack s (b .records) to)) (inserted s to name line write b)
+accessedBy s to name offset a b Missing = stopped b 8
+
+-- the use of the record that held the line, or was filled
+unfoldable pub usesBy : Shape → ℕ → Uses → Way → Uses
+usesBy s to uses (Held i write) = usedIn s uses i
+usesBy s to uses (InMemory line write) = usedIn s uses to
+usesBy s to uses Missing = uses
+
+-- what an access gives, with the matrices after
+pub record Touched : Type 0 where
+  pub reached : Reached
+  pub uses : Uses
+
+abbrev pub touched : Reached → Uses → Touched
+touched r uses = record { reached = r; uses = uses }
 
 -- the way to the line of a global address
 abbrev pub wayTo : Shape → List ℕ → List ℕ → Global → Way
-wayTo s words records g = wayOf ways s words records (nameOf g)
+wayTo s words records g = wayOf s words records (nameOf g)
 
-unfoldable pub accessed : Shape → List ℕ → Global → Access → Store → Reached
-accessed s words g a b = accessedBy s (nameOf g) (g .0 % lineBytes) a b (wayTo s words (b .records) g)
+-- a line that is not held is filled in the victim of its set
+abbrev pub victimFor : Shape → Uses → List ℕ → Global → ℕ
+victimFor s uses records g = victimOf s uses records (nameOf g)
 
--- a reached line's outcome, on the whole board
-abbrev pub onBoard : Board → Reached → Outcome
-onBoard b r = outcome (r .answer) (withStore b (r .after))
+unfoldable pub accessed : Shape → List ℕ → Global → Access → Store → Uses → Touched
+accessed s words g a b uses =
+    touched (accessedBy s (victimFor s uses (b .records) g) (nameOf g) (g .0 % lineBytes) a b (wayTo s words (b .records) g))
+    (usesBy s (victimFor s uses (b .records) g) uses (wayTo s words (b .records) g))
+
+-- its outcome, on the whole board
+abbrev pub onBoard : Board → Touched → Outcome
+onBoard b t = outcome (t .reached .answer) (withUse b (t .reached .after) (t .uses))
 
 -- ---- user access (process, load or store, width, effective address, value)
 
@@ -93,7 +112,7 @@ userTable s b process a e =
 unfoldable pub userAccess : Shape → Board → ℕ → Access → Effective → Outcome
 userAccess s b process a e =
     byTable (refused b) (userTable s b process a e)
-    (onBoard b (accessed s (b .words) (userGlobal (b .slots) process e) a (b .store)))
+    (onBoard b (accessed s (b .words) (userGlobal (b .slots) process e) a (b .store) (b .uses)))
 
 -- ---- supervisor access (load or store, width, global address, value)
 
@@ -116,12 +135,12 @@ memoryAccess p a b =
     (reached (answer 0 (number (b .memory) (p .0) (a .width)) markUncached) (b .records) (b .cache) (b .memory))
 
 -- what it does, by what the address reaches (the page table region has been refused by row 12)
-unfoldable pub supervisorDone : Shape → List ℕ → Access → Global → Store → Region → Reached
-supervisorDone s words a g b Uncached = memoryAccess (physicalOf g) a b
-supervisorDone s words a g b Cached = accessed s words g a b
-supervisorDone s words a g b PageTable = stopped b 12
-supervisorDone s words a g b Ordinary = accessed s words g a b
+unfoldable pub supervisorDone : Shape → List ℕ → Access → Global → Store → Uses → Region → Touched
+supervisorDone s words a g b uses Uncached = touched (memoryAccess (physicalOf g) a b) uses
+supervisorDone s words a g b uses Cached = accessed s words g a b uses
+supervisorDone s words a g b uses PageTable = touched (stopped b 12) uses
+supervisorDone s words a g b uses Ordinary = accessed s words g a b uses
 
 unfoldable pub supervisorAccess : Shape → Board → Access → Global → Outcome
 supervisorAccess s b a g =
-    byTable (refused b) (supervisorTable s b a g) (onBoard b (supervisorDone s (b .words) a g (b .store) (regionOf g)))
+    byTable (refused b) (supervisorTable s b a g) (onBoard b (supervisorDone s (b .words) a g (b .store) (b .uses) (regionOf g)))

@@ -1,36 +1,40 @@
 -- 01, "The board": what a call reads and changes, and what it gives.
-use Prim.Native.Nat.{ℕ, _*_}
+use Prim.Native.Nat.{ℕ, _*_, _<_}
 use mathlib.Core.Path.{_≡_}
 use mathlib.Core.Bool.{Bool, true, false}
-use mathlib.Core.List.{List}
+use mathlib.Core.List.{List, []}
 use lib.ListN.{length, getD, replicate}
 use Rattle.address.specs.Layout.{processSlots}
-use Rattle.board.specs.Shapes.{fitsShape, recordWords}
+use Rattle.board.specs.Shapes.{fitsShape, recordWords, matricesOf}
 use Rattle.board.specs.Answers.{answer, markNoAccess}
 use Rattle.board.specs.declared.Shape.{Shape}
 use Rattle.board.specs.declared.Pending.{Pending}
 use Rattle.board.specs.declared.Answer.{Answer}
+use Rattle.sets.specs.Matrices.{freshMatrix}
 use Rattle.lines.specs.Records.{lineAt}
+use Rattle.lines.specs.Victims.{Uses, matrixOf}
 use Rattle.stores.specs.Stores.{Store, store}
 
--- the lines in a set: one in the base
-abbrev pub ways : ℕ
-ways = 1
-
--- the slot words of all processes, the frame words, the store (records, cache bytes, memory) and the pending tag
+-- the slot words of all processes, the frame words, the store (records, cache bytes, memory), the matrices of the sets (CR 4) and the pending tag
 pub record Board : Type 0 where
   pub slots : List ℕ
   pub words : List ℕ
   pub store : Store
+  pub uses : Uses
   pub tag : Pending
 
+-- of both editions: 01's has no matrices
+abbrev pub setsBoard : List ℕ → List ℕ → List ℕ → List ℕ → List ℕ → Uses → Pending → Board
+setsBoard slots words records cache memory uses tag = record { slots = slots; words = words; store = store records cache memory; uses = uses; tag = tag }
+
+-- 01's: it has no matrices
 abbrev pub board : List ℕ → List ℕ → List ℕ → List ℕ → List ℕ → Pending → Board
-board slots words records cache memory tag = record { slots = slots; words = words; store = store records cache memory; tag = tag }
+board slots words records cache memory tag = setsBoard slots words records cache memory [] tag
 
 -- the numbers F, U, P and L and the lengths of the buffers agree and are within limits
 abbrev pub fitsBoard : Shape → Board → Bool
 fitsBoard s b =
-    fitsShape s (length (b .slots)) (length (b .words)) (length (b .store .records)) (length (b .store .cache)) (length (b .store .memory))
+    fitsShape s (length (b .slots)) (length (b .words)) (length (b .store .records)) (length (b .store .cache)) (length (b .store .memory)) (length (b .uses))
 
 -- nothing pending, and a pending name
 abbrev pub noTag : Pending
@@ -39,16 +43,19 @@ noTag = record { set = false; name = 0 }
 abbrev pub tagged : ℕ → Pending
 tagged name = record { set = true; name = name }
 
--- fresh: slots and frame words 0, records not valid, nothing pending, memory (and cache) any bytes
+-- fresh: slots and frame words 0, records not valid, every matrix 0, nothing pending, memory (and cache) any bytes
 pub record Fresh (b : Board) : Type 0 where
   pub no-slot : (i : ℕ) → getD (b .slots) i 0 ≡ 0
   pub no-word : (frame : ℕ) → getD (b .words) frame 0 ≡ 0
   pub no-line : (i : ℕ) → lineAt (b .store .records) i .valid ≡ false
+  pub no-use : (place : ℕ) → place < length (b .uses) → matrixOf (b .uses) place ≡ freshMatrix
   pub no-tag : b .tag .set ≡ false
 
 -- a fresh board of a shape, all zeros but the bytes
 abbrev pub fresh : Shape → List ℕ → List ℕ → Board
-fresh s cache memory = board (replicate (s .processes * processSlots) 0) (replicate (s .frames) 0) (replicate (recordWords * s .lines) 0) cache memory noTag
+fresh s cache memory =
+    setsBoard (replicate (s .processes * processSlots) 0) (replicate (s .frames) 0) (replicate (recordWords * s .lines) 0) cache memory
+    (replicate (matricesOf s) freshMatrix) noTag
 
 -- what a call gives: the answer and the board after
 pub record Outcome : Type 0 where
@@ -66,15 +73,18 @@ refused b n = outcome (answer n 0 markNoAccess) b
 abbrev pub done : Board → Outcome
 done b = outcome (answer 0 0 markNoAccess) b
 
--- the board with other slots, another tag or another store
+-- the board with other slots, another tag, another store, or another store and other matrices
 abbrev pub withSlots : Board → List ℕ → Board
-withSlots b slots = record { slots = slots; words = b .words; store = b .store; tag = b .tag }
+withSlots b slots = record { slots = slots; words = b .words; store = b .store; uses = b .uses; tag = b .tag }
 
 abbrev pub withTag : Board → Pending → Board
-withTag b tag = record { slots = b .slots; words = b .words; store = b .store; tag = tag }
+withTag b tag = record { slots = b .slots; words = b .words; store = b .store; uses = b .uses; tag = tag }
 
 abbrev pub withStore : Board → Store → Board
-withStore b x = record { slots = b .slots; words = b .words; store = x; tag = b .tag }
+withStore b x = record { slots = b .slots; words = b .words; store = x; uses = b .uses; tag = b .tag }
+
+abbrev pub withUse : Board → Store → Uses → Board
+withUse b x uses = record { slots = b .slots; words = b .words; store = x; uses = uses; tag = b .tag }
 
 -- the frame words and the store, which map, unmap and protect change together
 pub record Pages : Type 0 where
@@ -88,4 +98,4 @@ abbrev pub pagesOf : Board → Pages
 pagesOf b = record { words = b .words; store = b .store }
 
 abbrev pub withPages : Board → Pages → Board
-withPages b p = record { slots = b .slots; words = p .words; store = p .store; tag = b .tag }
+withPages b p = record { slots = b .slots; words = p .words; store = p .store; uses = b .uses; tag = b .tag }

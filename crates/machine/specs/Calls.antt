@@ -14,9 +14,10 @@ use Rattle.board.specs.declared.Found.{Found}
 use Rattle.board.specs.declared.Found.the-variants.{At, Nothing}
 use Rattle.line_bytes.specs.Bytes.{zeroedFrame}
 use Rattle.stores.specs.Stores.{Store, store, inserted}
-use Rattle.lines.specs.Holds.{placeOf, holderOf}
+use Rattle.lines.specs.Holds.{holderOf}
+use Rattle.lines.specs.Victims.{Uses, victimOf, usedIn}
 use Rattle.visits.specs.Visits.{mapVisit, unmapVisit, protectVisit, flushVisit, visitedAll}
-use Rattle.machine.specs.Boards.{ways, Board, Outcome, refused, done, noTag, tagged, withSlots, withTag, withStore, withPages, Pages, pagesOf}
+use Rattle.machine.specs.Boards.{Board, Outcome, refused, done, noTag, tagged, withSlots, withTag, withStore, withUse, withPages, Pages, pagesOf}
 use Rattle.machine.specs.Refusals.{Row, row, byTable, row1, isProcess, isSlot, isFrame, isPhysicalLine, isName, isMapped, wordInUse}
 
 -- the frame that was found (where none was, a row has refused)
@@ -56,7 +57,7 @@ zeroedStore frame x = store (x .records) (x .cache) (zeroedFrame (x .memory) fra
 unfoldable pub mapped : Shape → ℕ → ℕ → Bool → Pages → Pages
 mapped s page frame write p = record {
   words = set (p .words) frame (frameWord page write);
-  store = zeroedStore frame (visitedAll ways s (mapVisit page frame) (p .store));
+  store = zeroedStore frame (visitedAll s (mapVisit page frame) (p .store));
 }
 
 abbrev pub mapTable : Shape → Board → ℕ → ℕ → List Row
@@ -75,7 +76,7 @@ abbrev pub pageTable : Shape → Board → ℕ → List Row
 pageTable s b page = row1 s b ∷ pageRows s (b .words) page
 
 unfoldable pub unmapped : Shape → ℕ → ℕ → Pages → Pages
-unmapped s page frame p = record { words = set (p .words) frame 0; store = visitedAll ways s (unmapVisit page) (p .store) }
+unmapped s page frame p = record { words = set (p .words) frame 0; store = visitedAll s (unmapVisit page) (p .store) }
 
 unfoldable pub unmap : Shape → Board → ℕ → Outcome
 unmap s b page =
@@ -87,7 +88,7 @@ unmap s b page =
 unfoldable pub protected : Shape → ℕ → ℕ → Bool → Pages → Pages
 protected s page frame write p = record {
   words = set (p .words) frame (frameWord page write);
-  store = visitedAll ways s (protectVisit page write) (p .store);
+  store = visitedAll s (protectVisit page write) (p .store);
 }
 
 unfoldable pub protect : Shape → Board → ℕ → Bool → Outcome
@@ -101,7 +102,7 @@ abbrev pub flushTable : Shape → Board → List Row
 flushTable s b = row1 s b ∷ []
 
 unfoldable pub flushAll : Shape → Board → Outcome
-flushAll s b = byTable (refused b) (flushTable s b) (done (withStore b (visitedAll ways s flushVisit (b .store))))
+flushAll s b = byTable (refused b) (flushTable s b) (done (withStore b (visitedAll s flushVisit (b .store))))
 
 -- ---- tag: remembers a line name
 
@@ -130,12 +131,30 @@ homeRows s words name line = row 8 (not (isMapped (nameFrame s words name))) ∷
 abbrev pub loadRows : Shape → List ℕ → Pending → ℕ → List Row
 loadRows s words t line = row 2 (not (isPhysicalLine s line)) ∷ row 3 (not (t .set)) ∷ homeRows s words (t .name) line
 
-unfoldable pub loadedBy : Shape → ℕ → ℕ → Bool → Store → Found → Store
-loadedBy s name line write x (At i) = x
-loadedBy s name line write x Nothing = inserted ways s (placeOf ways s name) name line write x
+-- a line that is held stays as it is, which is no use; else it is inserted in the record `to`, which is one
+unfoldable pub loadedBy : Shape → ℕ → ℕ → ℕ → Bool → Store → Found → Store
+loadedBy s to name line write x (At i) = x
+loadedBy s to name line write x Nothing = inserted s to name line write x
 
-unfoldable pub loaded : Shape → ℕ → ℕ → Bool → Store → Store
-loaded s name line write x = loadedBy s name line write x (holderOf ways s (x .records) name)
+unfoldable pub loadedUses : Shape → ℕ → Uses → Found → Uses
+loadedUses s to uses (At i) = uses
+loadedUses s to uses Nothing = usedIn s uses to
+
+-- the store, and the matrices, with the line inserted in the victim of its set
+pub record Loaded : Type 0 where
+  pub store : Store
+  pub uses : Uses
+
+abbrev pub loadedWith : Store → Uses → Loaded
+loadedWith x uses = record { store = x; uses = uses }
+
+unfoldable pub loaded : Shape → ℕ → ℕ → Bool → Store → Uses → Loaded
+loaded s name line write x uses =
+    loadedWith (loadedBy s (victimOf s uses (x .records) name) name line write x (holderOf s (x .records) name))
+    (loadedUses s (victimOf s uses (x .records) name) uses (holderOf s (x .records) name))
+
+abbrev pub onLoaded : Board → Loaded → Board
+onLoaded b x = withUse b (x .store) (x .uses)
 
 abbrev pub loadAndMapTable : Shape → Board → ℕ → List Row
 loadAndMapTable s b line = row1 s b ∷ loadRows s (b .words) (b .tag) line
@@ -143,7 +162,7 @@ loadAndMapTable s b line = row1 s b ∷ loadRows s (b .words) (b .tag) line
 unfoldable pub loadAndMap : Shape → Board → ℕ → Outcome
 loadAndMap s b line =
     byTable (refused b) (loadAndMapTable s b line)
-    (done (withTag (withStore b (loaded s (b .tag .name) line (nameWrites s (b .words) (b .tag .name)) (b .store))) noTag))
+    (done (withTag (onLoaded b (loaded s (b .tag .name) line (nameWrites s (b .words) (b .tag .name)) (b .store) (b .uses))) noTag))
 
 -- ---- drop tag
 

@@ -6,14 +6,16 @@ use mathlib.Core.Path.{_≡_}
 use mathlib.Core.Bool.{Bool}
 use mathlib.Core.List.{List}
 use denote.Ref.{RefT, ptr, now}
+use denote.Triple.Both.{Both}
 use Rattle.address.specs.declared.Effective.{Effective}
 use Rattle.address.specs.declared.Global.{Global}
 use Rattle.board.specs.declared.Shape.{Shape}
 use Rattle.board.specs.declared.Pending.{Pending}
 use Rattle.board.specs.declared.Answer.{Answer}
+use Rattle.lines.specs.Victims.{Uses}
 use Rattle.stores.specs.Lent.{Buffer}
 use Rattle.stores.specs.declared.Access.{Access}
-use Rattle.machine.specs.Boards.{Board, board, outcome}
+use Rattle.machine.specs.Boards.{Board, setsBoard, board, outcome}
 use Rattle.machine.specs.Accesses.{userAccess, supervisorAccess}
 use Rattle.machine.specs.Lists.{Answered, listed, userAccesses}
 use Rattle.machine.specs.Calls as calls
@@ -21,7 +23,20 @@ use Rattle.machine.specs.Looks.{lookNumber, look, lookStart}
 
 -- ---- the board as a call's buffers have it
 
--- the board that the buffers and a tag are before the call, and after it
+-- lent matrices
+abbrev pub LentUses : Type 0
+LentUses = Both (RefT Uses) (RefT Uses)
+
+-- the board that the buffers and a tag are before the call, and after it: of both editions
+abbrev pub setsBefore : Buffer → Buffer → Buffer → Buffer → Buffer → LentUses → Pending → Board
+setsBefore slots words records cache memory uses tag =
+    setsBoard (now (slots .entry)) (now (words .entry)) (now (records .entry)) (now (cache .entry)) (now (memory .entry)) (now (uses .entry)) tag
+
+abbrev pub setsAfter : Buffer → Buffer → Buffer → Buffer → Buffer → LentUses → Pending → Board
+setsAfter slots words records cache memory uses tag =
+    setsBoard (now (slots .exit)) (now (words .exit)) (now (records .exit)) (now (cache .exit)) (now (memory .exit)) (now (uses .exit)) tag
+
+-- those of 01's edition, which has no matrices
 abbrev pub before : Buffer → Buffer → Buffer → Buffer → Buffer → Pending → Board
 before slots words records cache memory tag =
     board (now (slots .entry)) (now (words .entry)) (now (records .entry)) (now (cache .entry)) (now (memory .entry)) tag
@@ -78,7 +93,8 @@ Look s b line cache memory part = (now part ≡ look s b line) × (ptr part ≡ 
 
 -- ---- no second outcome
 
--- two outcomes that meet the contract agree in number, value, mark and all that is left: every slot, word, record, byte and tag; of a list, every answer
+-- two outcomes that meet the contract agree in number, value, mark and all that is left: every slot, word, record, byte, matrix and tag; of a list,
+-- every answer
 abbrev pub Determines : {Left : Type 0} → (Answer → Left → Type 0) → Type 0
 Determines {Left} Meets = (r q : Answer) (c d : Left) → Meets r c → Meets q d → (r ≡ q) × (c ≡ d)
 

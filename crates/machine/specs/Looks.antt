@@ -8,7 +8,7 @@ use Rattle.board.specs.declared.Found.{Found}
 use Rattle.board.specs.declared.Found.the-variants.{At, Nothing}
 use Rattle.lines.specs.Holds.{keeperOf}
 use Rattle.stores.specs.Stores.{current}
-use Rattle.machine.specs.Boards.{ways, Board}
+use Rattle.machine.specs.Boards.{Board}
 use Rattle.machine.specs.Refusals.{Row, row, byTable, lowest, row1, isPhysicalLine}
 
 abbrev pub lookTable : Shape → Board → ℕ → List Row
@@ -20,7 +20,7 @@ lookNumber s b line = lowest (lookTable s b line)
 
 -- the line's current sixteen bytes; refused, an empty part
 unfoldable pub look : Shape → Board → ℕ → List ℕ
-look s b line = byTable (λ n. []) (lookTable s b line) (current ways s (b .store) line)
+look s b line = byTable (λ n. []) (lookTable s b line) (current s (b .store) line)
 
 -- where a buffer, or a part of one, begins in the machine's memory: a block of it and an offset
 abbrev pub Start : Type 0
@@ -37,4 +37,4 @@ startBy cache memory line Nothing = lineStart memory line
 
 -- where the part begins that look gives: it is a part of the cache bytes or of memory itself; refused, it is empty and begins with the cache bytes
 unfoldable pub lookStart : Shape → Board → ℕ → Start → Start → Start
-lookStart s b line cache memory = byTable (λ n. cache) (lookTable s b line) (startBy cache memory line (keeperOf ways s (b .store .records) line))
+lookStart s b line cache memory = byTable (λ n. cache) (lookTable s b line) (startBy cache memory line (keeperOf s (b .store .records) line))

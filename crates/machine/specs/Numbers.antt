@@ -20,7 +20,7 @@ use Rattle.machine.specs.Calls.{attach}
 
 -- one frame, one process, one line
 abbrev small : Shape
-small = record { frames = 1; uncached = 0; processes = 1; lines = 1 }
+small = record { frames = 1; uncached = 0; processes = 1; lines = 1; ways = 1 }
 
 abbrev smallFresh : Board
 smallFresh = fresh small (replicate 16 0) (replicate 4096 0)

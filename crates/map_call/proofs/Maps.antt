@@ -22,7 +22,8 @@ use Rattle.line_bytes.specs.Bytes.{zeroedFrame}
 use Rattle.stores.specs.Stores.{store}
 use Rattle.visits.specs.Visits.{mapVisit, visitedAll}
 use Rattle.visits.specs.declared.Visit.{Visit}
-use Rattle.machine.specs.Boards.{Board, board, Outcome, outcome, refused, done, pages, pagesOf, withPages}
+use Rattle.lines.specs.Victims.{Uses}
+use Rattle.machine.specs.Boards.{Board, setsBoard, Outcome, outcome, refused, done, pages, pagesOf, withPages}
 use Rattle.machine.specs.Refusals.{row, byTable, lowest, isFrame, isMapped}
 use Rattle.machine.specs.Calls.{mapped, mapPage}
 use Rattle.map_call.specs.Numbers.{mapNumber}
@@ -71,7 +72,7 @@ module _ (s : Shape) (words : List ℕ) (page frame n : ℕ) (e : n ≡ mapNumbe
 -- ---- the change
 
 module _ (s : Shape) (page frame : ℕ) (w r c m r₁ m₁ : List ℕ) where
-  mapped-by : (write : Bool) (m₂ : List ℕ) (word : ℕ) (v : Visit) → v ≡ mapVisit page frame → store r₁ c m₁ ≡ visitedAll 1 s v (store r c m) → m₂ ≡ zeroedFrame m₁ frame
+  mapped-by : (write : Bool) (m₂ : List ℕ) (word : ℕ) (v : Visit) → v ≡ mapVisit page frame → store r₁ c m₁ ≡ visitedAll s v (store r c m) → m₂ ≡ zeroedFrame m₁ frame
       → word ≡ frameWord page write → pages (set w frame word) r₁ c m₂ ≡ mapped s page frame write (pages w r c m)
   unfolding mapped
   mapped-by write m₂ word v k e z g = rw (z, g, ← k, ← e)
@@ -96,24 +97,24 @@ unfolding byNumber
 by-refusal b d a zero h q = absurd (h refl)
 by-refusal b d a (suc n) h q = rw q
 
-module _ (s : Shape) (slots w r c m : List ℕ) (tag : Pending) (t : Bool) (f : t ≡ fitsShape s (length slots) (length w) (length r) (length c) (length m))
-    (h : t ≡ true) (page : ℕ) (a : Answer) where
+module _ (s : Shape) (slots w r c m : List ℕ) (u : Uses) (tag : Pending) (t : Bool)
+    (f : t ≡ fitsShape s (length slots) (length w) (length r) (length c) (length m) (length u)) (h : t ≡ true) (page : ℕ) (a : Answer) where
   abbrev b : Board
-  b = board slots w r c m tag
+  b = setsBoard slots w r c m u tag
 
   module _ (frame : ℕ) (write : Bool) (n : ℕ) (e : n ≡ mapNumber s w page frame) where
     map-on : byNumber (refused b) (done (withPages b (mapped s page frame write (pagesOf b)))) n ≡ mapPage s b page frame write
     unfolding mapPage mapNumber
     map-on =
         rw e (by-number (refused b) (done (withPages b (mapped s page frame write (pagesOf b)))) _ _ _
-        ∙ fit-table s slots w r c m t f h (refused b) tag _ _)
+        ∙ fit-table s slots w r c m u t f h (refused b) tag _ _)
 
     pub map-refused : (n ≡ 0 → ⊥) → a ≡ answer n 0 0 → outcome a b ≡ mapPage s b page frame write
     map-refused k q = by-refusal b _ a n k q ∙ map-on
 
-    pub map-done : (v : Visit) (r₁ m₁ m₂ : List ℕ) (word : ℕ) → n ≡ 0 → v ≡ mapVisit page frame → store r₁ c m₁ ≡ visitedAll 1 s v (store r c m) → m₂ ≡ zeroedFrame m₁ frame
-        → word ≡ frameWord page write → a ≡ answer 0 0 0 → outcome a (board slots (set w frame word) r₁ c m₂ tag) ≡ mapPage s b page frame write
+    pub map-done : (v : Visit) (r₁ m₁ m₂ : List ℕ) (word : ℕ) → n ≡ 0 → v ≡ mapVisit page frame → store r₁ c m₁ ≡ visitedAll s v (store r c m) → m₂ ≡ zeroedFrame m₁ frame
+        → word ≡ frameWord page write → a ≡ answer 0 0 0 → outcome a (setsBoard slots (set w frame word) r₁ c m₂ u tag) ≡ mapPage s b page frame write
     unfolding byNumber
-    map-done v r₁ m₁ m₂ word k u x z g q =
-        pages-done slots w r c m tag a _ (set w frame word) r₁ m₂ (mapped-by s page frame w r c m r₁ m₁ write m₂ word v u x z g) q
+    map-done v r₁ m₁ m₂ word k y x z g q =
+        pages-done slots w r c m u tag a _ (set w frame word) r₁ m₂ (mapped-by s page frame w r c m r₁ m₁ write m₂ word v y x z g) q
         ∙ (ap (byNumber (refused b) (done (withPages b (mapped s page frame write (pagesOf b))))) (sym k) ∙ map-on)

@@ -3,7 +3,7 @@ ghost use mathlib.Core.Path.{_≡_};
 ghost use lib.ListN.{length};
 ghost use Rattle.board.specs.declared.Pending.{Pending};
 ghost use Rattle.machine.specs.Refusals.{isFrame};
-ghost use Rattle.machine.specs.Contracts.{before, after, Map};
+ghost use Rattle.machine.specs.Contracts.{setsBefore, setsAfter, Map};
 ghost use Rattle.map_call.specs.Numbers.{mapNumber};
 use board::Answer;
 use board::Found;
@@ -43,11 +43,12 @@ pub fn map(
     records: &mut [u64],
     cache: &[u8],
     memory: &mut [u8],
+    uses: &[[[u8; 4]; 4]],
     page: u64,
     frame: usize,
     write: bool,
 ) -> Answer
-    ensures { λ r. ⌜ ((tag : Pending) → Map s (before slots words records cache memory tag) page frame write r (after slots words records cache memory tag)) ⌝ }
+    ensures { λ r. ⌜ ((tag : Pending) → Map s (setsBefore slots words records cache memory uses tag) page frame write r (setsAfter slots words records cache memory uses tag)) ⌝ }
 {
     if board::fits(
         s,
@@ -56,6 +57,7 @@ pub fn map(
         records.len(),
         cache.len(),
         memory.len(),
+        uses.len(),
     ) {
         let number = map_number(s, words, page, frame);
         if number == 0 {

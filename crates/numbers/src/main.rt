@@ -43,11 +43,13 @@ fn shape(processes: usize, lines: usize) -> Shape {
         uncached: 0,
         processes: processes,
         lines: lines,
+        ways: 1,
     }
 }
 
 // Width 4 at address 2, on a fresh board.
 fn misaligned() -> u32 {
+    let mut none: [[[u8; 4]; 4]; 0] = [];
     let slots: [u32; PROCESS_SLOTS] = [0; PROCESS_SLOTS];
     let words: [u64; 1] = [0; 1];
     let mut records: [u64; RECORD_WORDS] = [0; RECORD_WORDS];
@@ -69,6 +71,7 @@ fn misaligned() -> u32 {
         &mut records,
         &mut cache,
         &mut memory,
+        &mut none,
         tag,
         0,
         load,
@@ -81,6 +84,7 @@ fn misaligned() -> u32 {
 fn attached(processes: usize, lines: usize, slots: &mut [u32], records: &[u64], cache: &[u8]) -> u32
     requires { ⌜ 1 ≤ processes ⌝ }
 {
+    let none: [[[u8; 4]; 4]; 0] = [];
     let words: [u64; 1] = [0; 1];
     let memory: [u8; PAGE_BYTES] = [0; PAGE_BYTES];
     let a = attach(
@@ -90,6 +94,7 @@ fn attached(processes: usize, lines: usize, slots: &mut [u32], records: &[u64], 
         records,
         cache,
         &memory,
+        &none,
         processes - 1,
         0,
         2048,

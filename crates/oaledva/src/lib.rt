@@ -3,8 +3,9 @@
 ghost use Rattle.address.specs.Addresses.{global};
 ghost use Rattle.board.specs.Lists.{isYes};
 ghost use Rattle.board.specs.declared.Pending.{Pending};
+ghost use Rattle.board.specs.Shapes.{oneLine};
 ghost use Rattle.machine.specs.Contracts.{before, after, SupervisorAccess, Attach, Detach, Map, Unmap, Protect, FlushAll, Tag, LoadAndMap, DropTag, LookNumber};
-ghost use Rattle.crossing.specs.Packing.{unpacked, tagOf, shape, access};
+ghost use Rattle.crossing.specs.Packing.{unpacked, tagOf, access};
 ghost use Rattle.crossing.specs.Returns.{tagBefore, returned, Meets};
 ghost use Rattle.crossing.specs.Entries.{EntryReturned};
 ghost use Rattle.look_place.specs.Lends.{LookPlace};
@@ -32,13 +33,15 @@ pub extern "C" fn oaledva_supervisor_access(
     address: u64,
     value: u32,
 ) -> u64
-    ensures { λ r. ⌜ SupervisorAccess (shape frames uncached processes lines) (before slots words records cache memory (tagOf set name)) (access store width value) (global address) (unpacked r) (after slots words records cache memory (tagOf set name)) ⌝ }
+    ensures { λ r. ⌜ SupervisorAccess (oneLine frames uncached processes lines) (before slots words records cache memory (tagOf set name)) (access store width value) (global address) (unpacked r) (after slots words records cache memory (tagOf set name)) ⌝ }
 {
+    let mut none: [[[u8; 4]; 4]; 0] = [];
     let s = Shape {
         frames: frames,
         uncached: uncached,
         processes: processes,
         lines: lines,
+        ways: 1,
     };
     let tag = Pending {
         set: set != 0,
@@ -56,6 +59,7 @@ pub extern "C" fn oaledva_supervisor_access(
         records,
         cache,
         memory,
+        &mut none,
         tag,
         a,
         Global(address),
@@ -80,13 +84,15 @@ pub extern "C" fn oaledva_attach(
     segment: u64,
     write: u32,
 ) -> u64
-    ensures { λ r. ⌜ ((tag : Pending) → Attach (shape frames uncached processes lines) (before slots words records cache memory tag) process slot segment (isYes write) (unpacked r) (after slots words records cache memory tag)) ⌝ }
+    ensures { λ r. ⌜ ((tag : Pending) → Attach (oneLine frames uncached processes lines) (before slots words records cache memory tag) process slot segment (isYes write) (unpacked r) (after slots words records cache memory tag)) ⌝ }
 {
+    let none: [[[u8; 4]; 4]; 0] = [];
     let s = Shape {
         frames: frames,
         uncached: uncached,
         processes: processes,
         lines: lines,
+        ways: 1,
     };
     let x = slot_calls::attach(
         s,
@@ -95,6 +101,7 @@ pub extern "C" fn oaledva_attach(
         records,
         cache,
         memory,
+        &none,
         process,
         slot,
         segment,
@@ -118,15 +125,27 @@ pub extern "C" fn oaledva_detach(
     process: usize,
     slot: usize,
 ) -> u64
-    ensures { λ r. ⌜ ((tag : Pending) → Detach (shape frames uncached processes lines) (before slots words records cache memory tag) process slot (unpacked r) (after slots words records cache memory tag)) ⌝ }
+    ensures { λ r. ⌜ ((tag : Pending) → Detach (oneLine frames uncached processes lines) (before slots words records cache memory tag) process slot (unpacked r) (after slots words records cache memory tag)) ⌝ }
 {
+    let none: [[[u8; 4]; 4]; 0] = [];
     let s = Shape {
         frames: frames,
         uncached: uncached,
         processes: processes,
         lines: lines,
+        ways: 1,
     };
-    let x = slot_calls::detach(s, slots, words, records, cache, memory, process, slot);
+    let x = slot_calls::detach(
+        s,
+        slots,
+        words,
+        records,
+        cache,
+        memory,
+        &none,
+        process,
+        slot,
+    );
     crossing::packed_answer(x)
 }
 
@@ -146,13 +165,15 @@ pub extern "C" fn oaledva_map(
     frame: usize,
     write: u32,
 ) -> u64
-    ensures { λ r. ⌜ ((tag : Pending) → Map (shape frames uncached processes lines) (before slots words records cache memory tag) page frame (isYes write) (unpacked r) (after slots words records cache memory tag)) ⌝ }
+    ensures { λ r. ⌜ ((tag : Pending) → Map (oneLine frames uncached processes lines) (before slots words records cache memory tag) page frame (isYes write) (unpacked r) (after slots words records cache memory tag)) ⌝ }
 {
+    let none: [[[u8; 4]; 4]; 0] = [];
     let s = Shape {
         frames: frames,
         uncached: uncached,
         processes: processes,
         lines: lines,
+        ways: 1,
     };
     let x = map_call::map(
         s,
@@ -161,6 +182,7 @@ pub extern "C" fn oaledva_map(
         records,
         cache,
         memory,
+        &none,
         page,
         frame,
         write != 0,
@@ -182,15 +204,17 @@ pub extern "C" fn oaledva_unmap(
     memory: &mut [u8],
     page: u64,
 ) -> u64
-    ensures { λ r. ⌜ ((tag : Pending) → Unmap (shape frames uncached processes lines) (before slots words records cache memory tag) page (unpacked r) (after slots words records cache memory tag)) ⌝ }
+    ensures { λ r. ⌜ ((tag : Pending) → Unmap (oneLine frames uncached processes lines) (before slots words records cache memory tag) page (unpacked r) (after slots words records cache memory tag)) ⌝ }
 {
+    let none: [[[u8; 4]; 4]; 0] = [];
     let s = Shape {
         frames: frames,
         uncached: uncached,
         processes: processes,
         lines: lines,
+        ways: 1,
     };
-    let x = page_calls::unmap(s, slots, words, records, cache, memory, page);
+    let x = page_calls::unmap(s, slots, words, records, cache, memory, &none, page);
     crossing::packed_answer(x)
 }
 
@@ -209,15 +233,27 @@ pub extern "C" fn oaledva_protect(
     page: u64,
     write: u32,
 ) -> u64
-    ensures { λ r. ⌜ ((tag : Pending) → Protect (shape frames uncached processes lines) (before slots words records cache memory tag) page (isYes write) (unpacked r) (after slots words records cache memory tag)) ⌝ }
+    ensures { λ r. ⌜ ((tag : Pending) → Protect (oneLine frames uncached processes lines) (before slots words records cache memory tag) page (isYes write) (unpacked r) (after slots words records cache memory tag)) ⌝ }
 {
+    let none: [[[u8; 4]; 4]; 0] = [];
     let s = Shape {
         frames: frames,
         uncached: uncached,
         processes: processes,
         lines: lines,
+        ways: 1,
     };
-    let x = page_calls::protect(s, slots, words, records, cache, memory, page, write != 0);
+    let x = page_calls::protect(
+        s,
+        slots,
+        words,
+        records,
+        cache,
+        memory,
+        &none,
+        page,
+        write != 0,
+    );
     crossing::packed_answer(x)
 }
 
@@ -234,15 +270,17 @@ pub extern "C" fn oaledva_flush_all(
     cache: &[u8],
     memory: &mut [u8],
 ) -> u64
-    ensures { λ r. ⌜ ((tag : Pending) → FlushAll (shape frames uncached processes lines) (before slots words records cache memory tag) (unpacked r) (after slots words records cache memory tag)) ⌝ }
+    ensures { λ r. ⌜ ((tag : Pending) → FlushAll (oneLine frames uncached processes lines) (before slots words records cache memory tag) (unpacked r) (after slots words records cache memory tag)) ⌝ }
 {
+    let none: [[[u8; 4]; 4]; 0] = [];
     let s = Shape {
         frames: frames,
         uncached: uncached,
         processes: processes,
         lines: lines,
+        ways: 1,
     };
-    let x = line_calls::flush_all(s, slots, words, records, cache, memory);
+    let x = line_calls::flush_all(s, slots, words, records, cache, memory, &none);
     crossing::packed_answer(x)
 }
 
@@ -262,13 +300,14 @@ pub extern "C" fn oaledva_tag(
     name: &mut u64,
     line: u64,
 ) -> u64
-    ensures { λ r. ⌜ Meets (Tag (shape frames uncached processes lines) (before slots words records cache memory (tagBefore set name)) line) (now (set .entry)) (returned r slots words records cache memory set name) ⌝ }
+    ensures { λ r. ⌜ Meets (Tag (oneLine frames uncached processes lines) (before slots words records cache memory (tagBefore set name)) line) (now (set .entry)) (returned r slots words records cache memory set name) ⌝ }
 {
     let s = Shape {
         frames: frames,
         uncached: uncached,
         processes: processes,
         lines: lines,
+        ways: 1,
     };
     let tag = Pending {
         set: *set != 0,
@@ -296,13 +335,14 @@ pub extern "C" fn oaledva_load_and_map(
     name: &mut u64,
     line: usize,
 ) -> u64
-    ensures { λ r. ⌜ Meets (LoadAndMap (shape frames uncached processes lines) (before slots words records cache memory (tagBefore set name)) line) (now (set .entry)) (returned r slots words records cache memory set name) ⌝ }
+    ensures { λ r. ⌜ Meets (LoadAndMap (oneLine frames uncached processes lines) (before slots words records cache memory (tagBefore set name)) line) (now (set .entry)) (returned r slots words records cache memory set name) ⌝ }
 {
     let s = Shape {
         frames: frames,
         uncached: uncached,
         processes: processes,
         lines: lines,
+        ways: 1,
     };
     let tag = Pending {
         set: *set != 0,
@@ -329,13 +369,14 @@ pub extern "C" fn oaledva_drop_tag(
     set: &mut u32,
     name: &mut u64,
 ) -> u64
-    ensures { λ r. ⌜ Meets (DropTag (shape frames uncached processes lines) (before slots words records cache memory (tagBefore set name))) (now (set .entry)) (returned r slots words records cache memory set name) ⌝ }
+    ensures { λ r. ⌜ Meets (DropTag (oneLine frames uncached processes lines) (before slots words records cache memory (tagBefore set name))) (now (set .entry)) (returned r slots words records cache memory set name) ⌝ }
 {
     let s = Shape {
         frames: frames,
         uncached: uncached,
         processes: processes,
         lines: lines,
+        ways: 1,
     };
     let tag = Pending {
         set: *set != 0,
@@ -361,15 +402,17 @@ pub extern "C" fn oaledva_look_number(
     memory: &[u8],
     line: usize,
 ) -> u32
-    ensures { λ r. ⌜ ((tag : Pending) → LookNumber (shape frames uncached processes lines) (before slots words records cache memory tag) line r) ⌝ }
+    ensures { λ r. ⌜ ((tag : Pending) → LookNumber (oneLine frames uncached processes lines) (before slots words records cache memory tag) line r) ⌝ }
 {
+    let none: [[[u8; 4]; 4]; 0] = [];
     let s = Shape {
         frames: frames,
         uncached: uncached,
         processes: processes,
         lines: lines,
+        ways: 1,
     };
-    line_calls::look_number(s, slots, words, records, cache, memory, line)
+    line_calls::look_number(s, slots, words, records, cache, memory, &none, line)
 }
 
 // Where the current sixteen bytes of a physical line stand in the caller's own buffers.
@@ -386,15 +429,17 @@ pub extern "C" fn oaledva_look(
     memory: &[u8],
     line: usize,
 ) -> u64
-    ensures { λ r. ⌜ ((tag : Pending) → LookPlace (shape frames uncached processes lines) (before slots words records cache memory tag) line r) ⌝ }
+    ensures { λ r. ⌜ ((tag : Pending) → LookPlace (oneLine frames uncached processes lines) (before slots words records cache memory tag) line r) ⌝ }
 {
+    let none: [[[u8; 4]; 4]; 0] = [];
     let s = Shape {
         frames: frames,
         uncached: uncached,
         processes: processes,
         lines: lines,
+        ways: 1,
     };
-    look_place::place(s, slots, words, records, cache, memory, line)
+    look_place::place(s, slots, words, records, cache, memory, &none, line)
 }
 
 // Where the page table entry of a page stands. It asks no board.

@@ -1,8 +1,9 @@
 // User access for C and Rust, alone in its piece of the library: beside a second function over the same code the compiler would
 // not inline it.
 ghost use Rattle.address.specs.Addresses.{effective};
+ghost use Rattle.board.specs.Shapes.{oneLine};
 ghost use Rattle.machine.specs.Contracts.{before, after, UserAccess};
-ghost use Rattle.crossing.specs.Packing.{unpacked, tagOf, shape, access};
+ghost use Rattle.crossing.specs.Packing.{unpacked, tagOf, access};
 use address::Effective;
 use board::Pending;
 use board::Shape;
@@ -28,13 +29,15 @@ pub extern "C" fn oaledva_user_access(
     address: u32,
     value: u32,
 ) -> u64
-    ensures { λ r. ⌜ UserAccess (shape frames uncached processes lines) (before slots words records cache memory (tagOf set name)) process (access store width value) (effective address) (unpacked r) (after slots words records cache memory (tagOf set name)) ⌝ }
+    ensures { λ r. ⌜ UserAccess (oneLine frames uncached processes lines) (before slots words records cache memory (tagOf set name)) process (access store width value) (effective address) (unpacked r) (after slots words records cache memory (tagOf set name)) ⌝ }
 {
+    let mut none: [[[u8; 4]; 4]; 0] = [];
     let s = Shape {
         frames: frames,
         uncached: uncached,
         processes: processes,
         lines: lines,
+        ways: 1,
     };
     let tag = Pending {
         set: set != 0,
@@ -52,6 +55,7 @@ pub extern "C" fn oaledva_user_access(
         records,
         cache,
         memory,
+        &mut none,
         tag,
         process,
         a,

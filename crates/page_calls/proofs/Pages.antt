@@ -18,7 +18,8 @@ use Rattle.pages.proofs.Frames.{mapped-inside, mapped-ordinary, ordinary-below}
 use Rattle.stores.specs.Stores.{store}
 use Rattle.visits.specs.Visits.{unmapVisit, protectVisit, visitedAll}
 use Rattle.visits.specs.declared.Visit.{Visit}
-use Rattle.machine.specs.Boards.{Board, board, Outcome, outcome, refused, done, pages, pagesOf, withPages}
+use Rattle.lines.specs.Victims.{Uses}
+use Rattle.machine.specs.Boards.{Board, setsBoard, Outcome, outcome, refused, done, pages, pagesOf, withPages}
 use Rattle.machine.specs.Refusals.{row, byTable, isMapped}
 use Rattle.machine.specs.Calls.{foundFrame, pageRows, unmapped, unmap, protected, protect}
 use Rattle.machine.proofs.Tables.{table-map}
@@ -62,11 +63,11 @@ module _ (s : Shape) (words : List ℕ) (page f : ℕ) (k : Frame) (e : k ≡ pa
 -- ---- the changes
 
 module _ (s : Shape) (page frame : ℕ) (w r c m r₁ m₁ : List ℕ) where
-  unmapped-by : (v : Visit) → v ≡ unmapVisit page → store r₁ c m₁ ≡ visitedAll 1 s v (store r c m) → pages (set w frame 0) r₁ c m₁ ≡ unmapped s page frame (pages w r c m)
+  unmapped-by : (v : Visit) → v ≡ unmapVisit page → store r₁ c m₁ ≡ visitedAll s v (store r c m) → pages (set w frame 0) r₁ c m₁ ≡ unmapped s page frame (pages w r c m)
   unfolding unmapped
   unmapped-by v k e = rw (← k, ← e)
 
-  protected-by : (write : Bool) (word : ℕ) (v : Visit) → v ≡ protectVisit page write → store r₁ c m₁ ≡ visitedAll 1 s v (store r c m) → word ≡ frameWord page write
+  protected-by : (write : Bool) (word : ℕ) (v : Visit) → v ≡ protectVisit page write → store r₁ c m₁ ≡ visitedAll s v (store r c m) → word ≡ frameWord page write
       → pages (set w frame word) r₁ c m₁ ≡ protected s page frame write (pages w r c m)
   unfolding protected
   protected-by write word v k e g = rw (g, ← k, ← e)
@@ -78,10 +79,10 @@ unfoldable pub byFrame : {A : Type 0} → (ℕ → A) → (ℕ → A) → Frame 
 byFrame refuse go (Stop n) = refuse n
 byFrame refuse go (On f) = go f
 
-module _ (s : Shape) (slots w r c m : List ℕ) (tag : Pending) (t : Bool) (f : t ≡ fitsShape s (length slots) (length w) (length r) (length c) (length m))
-    (h : t ≡ true) (page : ℕ) (a : Answer) where
+module _ (s : Shape) (slots w r c m : List ℕ) (u : Uses) (tag : Pending) (t : Bool)
+    (f : t ≡ fitsShape s (length slots) (length w) (length r) (length c) (length m) (length u)) (h : t ≡ true) (page : ℕ) (a : Answer) where
   abbrev b : Board
-  b = board slots w r c m tag
+  b = setsBoard slots w r c m u tag
 
   module _ (k : Frame) (e : k ≡ pageFrame s w page) where
     frame-on : (go : ℕ → Outcome)
@@ -91,31 +92,31 @@ module _ (s : Shape) (slots w r c m : List ℕ) (tag : Pending) (t : Bool) (f : 
 
     unmap-on : byFrame (refused b) (λ x. done (withPages b (unmapped s page x (pagesOf b)))) k ≡ unmap s b page
     unfolding unmap
-    unmap-on = frame-on (λ x. done (withPages b (unmapped s page x (pagesOf b)))) ∙ fit-table s slots w r c m t f h (refused b) tag _ _
+    unmap-on = frame-on (λ x. done (withPages b (unmapped s page x (pagesOf b)))) ∙ fit-table s slots w r c m u t f h (refused b) tag _ _
 
     pub unmap-stop : (n : ℕ) → k ≡ Stop n → a ≡ answer n 0 0 → outcome a b ≡ unmap s b page
     unfolding byFrame
     unmap-stop n j q = rw q (ap (byFrame (refused b) (λ x. done (withPages b (unmapped s page x (pagesOf b))))) (sym j) ∙ unmap-on)
 
-    pub unmap-done : (x : ℕ) (v : Visit) (r₁ m₁ : List ℕ) → k ≡ On x → v ≡ unmapVisit page → store r₁ c m₁ ≡ visitedAll 1 s v (store r c m) → a ≡ answer 0 0 0
-        → outcome a (board slots (set w x 0) r₁ c m₁ tag) ≡ unmap s b page
+    pub unmap-done : (x : ℕ) (v : Visit) (r₁ m₁ : List ℕ) → k ≡ On x → v ≡ unmapVisit page → store r₁ c m₁ ≡ visitedAll s v (store r c m) → a ≡ answer 0 0 0
+        → outcome a (setsBoard slots (set w x 0) r₁ c m₁ u tag) ≡ unmap s b page
     unfolding byFrame
-    unmap-done x v r₁ m₁ j u e q =
-        pages-done slots w r c m tag a _ (set w x 0) r₁ m₁ (unmapped-by s page x w r c m r₁ m₁ v u e) q
+    unmap-done x v r₁ m₁ j z e q =
+        pages-done slots w r c m u tag a _ (set w x 0) r₁ m₁ (unmapped-by s page x w r c m r₁ m₁ v z e) q
         ∙ (ap (byFrame (refused b) (λ y. done (withPages b (unmapped s page y (pagesOf b))))) (sym j) ∙ unmap-on)
 
     module _ (write : Bool) where
       protect-on : byFrame (refused b) (λ x. done (withPages b (protected s page x write (pagesOf b)))) k ≡ protect s b page write
       unfolding protect
-      protect-on = frame-on (λ x. done (withPages b (protected s page x write (pagesOf b)))) ∙ fit-table s slots w r c m t f h (refused b) tag _ _
+      protect-on = frame-on (λ x. done (withPages b (protected s page x write (pagesOf b)))) ∙ fit-table s slots w r c m u t f h (refused b) tag _ _
 
       pub protect-stop : (n : ℕ) → k ≡ Stop n → a ≡ answer n 0 0 → outcome a b ≡ protect s b page write
       unfolding byFrame
       protect-stop n j q = rw q (ap (byFrame (refused b) (λ x. done (withPages b (protected s page x write (pagesOf b))))) (sym j) ∙ protect-on)
 
-      pub protect-done : (x word : ℕ) (v : Visit) (r₁ m₁ : List ℕ) → k ≡ On x → v ≡ protectVisit page write → store r₁ c m₁ ≡ visitedAll 1 s v (store r c m)
-          → word ≡ frameWord page write → a ≡ answer 0 0 0 → outcome a (board slots (set w x word) r₁ c m₁ tag) ≡ protect s b page write
+      pub protect-done : (x word : ℕ) (v : Visit) (r₁ m₁ : List ℕ) → k ≡ On x → v ≡ protectVisit page write → store r₁ c m₁ ≡ visitedAll s v (store r c m)
+          → word ≡ frameWord page write → a ≡ answer 0 0 0 → outcome a (setsBoard slots (set w x word) r₁ c m₁ u tag) ≡ protect s b page write
       unfolding byFrame
-      protect-done x word v r₁ m₁ j u e g q =
-          pages-done slots w r c m tag a _ (set w x word) r₁ m₁ (protected-by s page x w r c m r₁ m₁ write word v u e g) q
+      protect-done x word v r₁ m₁ j z e g q =
+          pages-done slots w r c m u tag a _ (set w x word) r₁ m₁ (protected-by s page x w r c m r₁ m₁ write word v z e g) q
           ∙ (ap (byFrame (refused b) (λ y. done (withPages b (protected s page y write (pagesOf b))))) (sym j) ∙ protect-on)

@@ -1,7 +1,7 @@
 // 01, "Calls": unmap and protect.
 ghost use mathlib.Core.Path.{_≡_};
 ghost use Rattle.board.specs.declared.Pending.{Pending};
-ghost use Rattle.machine.specs.Contracts.{before, after, Unmap, Protect};
+ghost use Rattle.machine.specs.Contracts.{setsBefore, setsAfter, Unmap, Protect};
 ghost use Rattle.page_calls.specs.Checks.{pageFrame};
 use board::Answer;
 use board::Found;
@@ -35,9 +35,10 @@ pub fn unmap(
     records: &mut [u64],
     cache: &[u8],
     memory: &mut [u8],
+    uses: &[[[u8; 4]; 4]],
     page: u64,
 ) -> Answer
-    ensures { λ r. ⌜ ((tag : Pending) → Unmap s (before slots words records cache memory tag) page r (after slots words records cache memory tag)) ⌝ }
+    ensures { λ r. ⌜ ((tag : Pending) → Unmap s (setsBefore slots words records cache memory uses tag) page r (setsAfter slots words records cache memory uses tag)) ⌝ }
 {
     if board::fits(
         s,
@@ -46,6 +47,7 @@ pub fn unmap(
         records.len(),
         cache.len(),
         memory.len(),
+        uses.len(),
     ) {
         match page_frame(s, words, page) {
             Frame::Stop(n) => numbered(n),
@@ -68,10 +70,11 @@ pub fn protect(
     records: &mut [u64],
     cache: &[u8],
     memory: &mut [u8],
+    uses: &[[[u8; 4]; 4]],
     page: u64,
     write: bool,
 ) -> Answer
-    ensures { λ r. ⌜ ((tag : Pending) → Protect s (before slots words records cache memory tag) page write r (after slots words records cache memory tag)) ⌝ }
+    ensures { λ r. ⌜ ((tag : Pending) → Protect s (setsBefore slots words records cache memory uses tag) page write r (setsAfter slots words records cache memory uses tag)) ⌝ }
 {
     if board::fits(
         s,
@@ -80,6 +83,7 @@ pub fn protect(
         records.len(),
         cache.len(),
         memory.len(),
+        uses.len(),
     ) {
         match page_frame(s, words, page) {
             Frame::Stop(n) => numbered(n),

@@ -1,5 +1,5 @@
 -- The page map: what words name, the frame of a page, where a name leads, that no two names share a home, and what a changed
--- frame word leaves alone. Stands on Searches and on the map laws of `pages`.
+-- frame word leaves alone. Stands on `board`'s Searches and on the map laws of `pages`.
 use Prim.Native.Nat.{ℕ, zero, suc, _+_, _*_, _-_, _/_, _%_, _≤_, _<_}
 use mathlib.Core.Logic.{_≢_}
 use mathlib.Core.Path.{_≡_, refl, sym, _∙_}
@@ -22,7 +22,8 @@ use Rattle.pages.proofs.Frames.{mapped-ordinary, home-at, home-direct, direct-o
 use Rattle.machine.specs.Refusals.{isMapped}
 use Rattle.machine.specs.Calls.{foundFrame}
 use Rattle.store_laws.proofs.Sim.{Homes}
-use Rattle.store_laws.proofs.Searches.{first, first-at, first-nothing, first-same, first-hit}
+use Rattle.board.specs.Searches.{first}
+use Rattle.board.proofs.Searches.{first-at, first-nothing, first-same, first-hit}
 
 -- ---- words
 

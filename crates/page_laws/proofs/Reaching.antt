@@ -1,15 +1,12 @@
--- An access by the cache gives what the flat memory gives; so do load-and-map and look. One line in a set, the map of the frame words.
+-- An access by the cache gives what the flat memory gives; so do load-and-map and look. Over any map from names to homes, and any record of the name's set.
 -- Stands on Held and Steps.
-use Prim.Native.Nat.{ℕ, _+_, _*_, _/_, _%_, _≤_, _<_}
-use mathlib.Core.Path.{_≡_, refl, sym}
+use Prim.Native.Nat.{ℕ, _+_, _*_, _≤_, _<_}
+use mathlib.Core.Path.{_≡_, _∙_, refl, sym}
 use mathlib.Core.Bool.{Bool, true, false, cond}
 use mathlib.Core.List.{List}
-use native.Mathlib.Nat.{mod-lt, div-one, add-assoc}
+use native.Mathlib.Nat.{add-assoc}
 use native.Mathlib.Omega.{arith}
 use Rattle.address.specs.Layout.{pageLines}
-use Rattle.address.specs.Addresses.{nameOf}
-use Rattle.address.specs.declared.Global.{Global}
-use Rattle.pages.specs.Pages.{homeOf}
 use Rattle.board.specs.declared.Shape.{Shape}
 use Rattle.board.specs.declared.Found.{Found}
 use Rattle.board.specs.declared.Found.the-variants.{At, Nothing}
@@ -18,12 +15,12 @@ use Rattle.board.specs.declared.Home.the-variants.{Line as HomeLine, Nowhere}
 use Rattle.line_bytes.specs.Bytes.{number as numberIn, digits, stored, lineOf}
 use Rattle.lines.specs.Records.{lineAt}
 use Rattle.stores.specs.Stores.{Store, store, performedAt, currentBy, current}
-use Rattle.lines.specs.Holds.{placeOf, holdsAt, holderOf, keeperOf}
-use Rattle.reach.specs.Reach.{wayByHome, wayBy, wayOf, unreached, mayWrite}
+use Rattle.lines.specs.Holds.{placeOf, setAt, holdsAt, holderOf, keeperOf}
+use Rattle.reach.specs.Reach.{wayByHome, wayBy, unreached, mayWrite}
 use Rattle.stores.specs.declared.Access.{Access}
 use Rattle.reach.specs.declared.Way.{Way}
-use Rattle.machine.specs.Accesses.{Reached, performedOn, accessedBy, wayTo, accessed}
-use Rattle.machine.specs.Calls.{loadedBy, loaded}
+use Rattle.machine.specs.Accesses.{Reached, performedOn, accessedBy}
+use Rattle.machine.specs.Calls.{loadedBy}
 use Rattle.store_laws.proofs.Sim.{Homes, Sim}
 use Rattle.store_laws.proofs.Bytes.{number-same, length-digits, line-ext}
 use Rattle.store_laws.proofs.Held.{held-below, holder-some, keeper-some, keeper-nothing}
@@ -32,32 +29,32 @@ use Rattle.store_laws.proofs.Steps.{sim-stored, sim-inserted, inserted-line, in
 -- ---- look
 
 -- the current bytes of a physical line are the flat memory's
-module _ {ways : ℕ} {s : Shape} {home : ℕ → Home} {x : Store} {m : List ℕ} (sim : Sim ways s home x m) (p : ℕ) (b : p < pageLines * s .frames) where
-  look-by : (f : Found) → keeperOf ways s (x .records) p ≡ f → currentBy (x .cache) (x .memory) p f ≡ lineOf m p
+module _ {s : Shape} {home : ℕ → Home} {x : Store} {m : List ℕ} (sim : Sim s home x m) (p : ℕ) (b : p < pageLines * s .frames) where
+  look-by : (f : Found) → keeperOf s (x .records) p ≡ f → currentBy (x .cache) (x .memory) p f ≡ lineOf m p
   unfolding currentBy
   look-by (At i) h =
-      let a = keeper-some ways s (x .records) p i h in
+      let a = keeper-some s (x .records) p i h in
       let d = held-below sim i (a .0) in
       line-ext (x .cache) m i p (omega (arith, sim .cache-count)) (omega (arith, sim .flat-count)) (λ k g. sym (rw (a .1) at (sim .cached i k (a .0) g)))
   look-by Nothing h =
       line-ext (x .memory) m p p (omega (arith, sim .memory-count)) (omega (arith, sim .flat-count))
       (λ k g. sym (sim .bare p k
-      (λ j o. keeper-nothing ways s (x .records) p j h (held-below sim j o) o) b g))
+      (λ j o. keeper-nothing s (x .records) p j h (held-below sim j o) o) b g))
 
-  pub look-same : current ways s x p ≡ lineOf m p
+  pub look-same : current s x p ≡ lineOf m p
   unfolding current
-  look-same = look-by (keeperOf ways s (x .records) p) refl
+  look-same = look-by (keeperOf s (x .records) p) refl
 
 -- ---- a load or a store on a held line
 
 -- what is reached is what the flat memory has at `at`
-record Same (s : Shape) (home : ℕ → Home) (a : Access) (m : List ℕ) (at : ℕ) (r : Reached) : Type 0 where
-  number : r .answer .number ≡ 0
-  value : r .answer .value ≡ cond (a .store) 0 (numberIn m at (a .width))
-  sim : Sim 1 s home (r .after) (cond (a .store) (stored m at (a .width) (a .value)) m)
+pub record Same (s : Shape) (home : ℕ → Home) (a : Access) (m : List ℕ) (at : ℕ) (r : Reached) : Type 0 where
+  pub number : r .answer .number ≡ 0
+  pub value : r .answer .value ≡ cond (a .store) 0 (numberIn m at (a .width))
+  pub sim : Sim s home (r .after) (cond (a .store) (stored m at (a .width) (a .value)) m)
 
-module _ {s : Shape} {home : ℕ → Home} {x : Store} {m : List ℕ} (sim : Sim 1 s home x m) (mark i off : ℕ) (a : Access)
-    (h : holdsAt 1 s (x .records) i ≡ true) (fit : off + a .width ≤ 16) where
+module _ {s : Shape} {home : ℕ → Home} {x : Store} {m : List ℕ} (sim : Sim s home x m) (mark i off : ℕ) (a : Access)
+    (h : holdsAt s (x .records) i ≡ true) (fit : off + a .width ≤ 16) where
   performed-value : (t : Bool) → a .store ≡ t
       → performedOn i off a mark x .answer .value ≡ cond (a .store) 0 (numberIn m (16 * lineAt (x .records) i .physical + off) (a .width))
   unfolding performedOn performedAt
@@ -67,7 +64,7 @@ module _ {s : Shape} {home : ℕ → Home} {x : Store} {m : List ℕ} (sim : Sim
       (λ k d. let z = sim .cached i (off + k) h (omega arith) in simp add-assoc (sym z)))
 
   performed-sim : (t : Bool) → a .store ≡ t
-      → Sim 1 s home (performedOn i off a mark x .after) (cond (a .store) (stored m (16 * lineAt (x .records) i .physical + off) (a .width) (a .value)) m)
+      → Sim s home (performedOn i off a mark x .after) (cond (a .store) (stored m (16 * lineAt (x .records) i .physical + off) (a .width) (a .value)) m)
   unfolding performedOn performedAt stored
   performed-sim true e = let d = length-digits (a .width) (a .value) in rw e (sim-stored sim i off (digits (a .width) (a .value)) h (omega arith))
   performed-sim false e = rw e sim
@@ -84,73 +81,60 @@ record WayHome (way : Way) (home : Home) : Type 0 where
   reaches : unreached way ≡ unreached (wayByHome home)
   writes : mayWrite way ≡ mayWrite (wayByHome home)
 
--- an access to g, whose home is physical line p, is an access to the flat memory m
-pub record Accessed (s : Shape) (words : List ℕ) (g : Global) (a : Access) (x : Store) (m : List ℕ) (p : ℕ) : Type 0 where
-  pub number : accessed s words g a x .answer .number ≡ 0
-  pub value : accessed s words g a x .answer .value ≡ cond (a .store) 0 (numberIn m (16 * p + g .0 % 16) (a .width))
-  pub sim : Sim 1 s (homeOf s words) (accessed s words g a x .after) (cond (a .store) (stored m (16 * p + g .0 % 16) (a .width) (a .value)) m)
+-- the way to a name's line over any map
+abbrev pub wayIn : Shape → (ℕ → Home) → List ℕ → ℕ → Way
+wayIn s home records name = wayBy records (home name) (holderOf s records name)
 
-module _ (s : Shape) (words : List ℕ) {x : Store} {m : List ℕ} (sim : Sim 1 s (homeOf s words) x m) where
+module _ (s : Shape) (home : ℕ → Home) {x : Store} {m : List ℕ} (sim : Sim s home x m) where
   -- the home of a held name is its record's physical line, with its permission
-  held-home : (name i : ℕ) → holderOf 1 s (x .records) name ≡ At i
-      → homeOf s words name ≡ HomeLine (lineAt (x .records) i .physical) (lineAt (x .records) i .write)
-  held-home name i h = let a = holder-some 1 s (x .records) name i h in rw (a .1) at (sim .maps i (a .0))
+  held-home : (name i : ℕ) → holderOf s (x .records) name ≡ At i → home name ≡ HomeLine (lineAt (x .records) i .physical) (lineAt (x .records) i .write)
+  held-home name i h = let a = holder-some s (x .records) name i h in rw (a .1) at (sim .maps i (a .0))
 
-  way-home-by : (name : ℕ) (f : Found) → holderOf 1 s (x .records) name ≡ f → WayHome (wayBy s words (x .records) name f) (homeOf s words name)
+  way-home-by : (name : ℕ) (f : Found) → holderOf s (x .records) name ≡ f → WayHome (wayBy (x .records) (home name) f) (home name)
   unfolding wayBy wayByHome unreached mayWrite
   way-home-by name (At i) h = let e = held-home name i h in record { reaches = rw e refl; writes = rw e refl }
   way-home-by name Nothing h = record { reaches = refl; writes = refl }
 
-  way-home : (g : Global) → WayHome (wayTo s words (x .records) g) (homeOf s words (nameOf g))
-  unfolding wayOf
-  way-home g = way-home-by (nameOf g) (holderOf 1 s (x .records) (nameOf g)) refl
+  way-home : (name : ℕ) → WayHome (wayIn s home (x .records) name) (home name)
+  way-home name = way-home-by name (holderOf s (x .records) name) refl
 
-  pub way-nowhere : (g : Global) → homeOf s words (nameOf g) ≡ Nowhere → unreached (wayTo s words (x .records) g) ≡ true
+  pub way-nowhere : (name : ℕ) → home name ≡ Nowhere → unreached (wayIn s home (x .records) name) ≡ true
   unfolding wayByHome unreached
-  way-nowhere g e = rw e at (way-home g .reaches)
+  way-nowhere name e = way-home name .reaches ∙ rw e refl
 
-  module _ (g : Global) (p : ℕ) (w : Bool) (e : homeOf s words (nameOf g) ≡ HomeLine p w) where
-    pub way-reached : unreached (wayTo s words (x .records) g) ≡ false
+  module _ (name p : ℕ) (w : Bool) (e : home name ≡ HomeLine p w) where
+    pub way-reached : unreached (wayIn s home (x .records) name) ≡ false
     unfolding wayByHome unreached
-    way-reached = rw e at (way-home g .reaches)
+    way-reached = way-home name .reaches ∙ rw e refl
 
-    pub way-writes : mayWrite (wayTo s words (x .records) g) ≡ w
+    pub way-writes : mayWrite (wayIn s home (x .records) name) ≡ w
     unfolding wayByHome mayWrite
-    way-writes = rw e at (way-home g .writes)
+    way-writes = way-home name .writes ∙ rw e refl
 
-module _ (s : Shape) (words : List ℕ) {x : Store} {m : List ℕ} (homes : Homes s (homeOf s words)) (sim : Sim 1 s (homeOf s words) x m) where
-  module _ (name p : ℕ) (w : Bool) (e : homeOf s words name ≡ HomeLine p w) where
-    place-low : placeOf 1 s name < s .lines
-    place-low = let z = sim .sets-pos in rw div-one (mod-lt name (rw div-one at z))
+-- an access to a name whose home is physical line p is an access to the flat memory; a load-and-map of it keeps that memory.
+-- The line that is not held goes to any record of its set.
+module _ (s : Shape) (home : ℕ → Home) {x : Store} {m : List ℕ} (homes : Homes s home) (sim : Sim s home x m)
+    (to name p : ℕ) (w : Bool) (low : to < s .lines) (own : setAt s to ≡ placeOf s name) (e : home name ≡ HomeLine p w) where
+  accessed-by : (off : ℕ) (a : Access) → off + a .width ≤ 16 → (f : Found) → holderOf s (x .records) name ≡ f
+      → Same s home a m (16 * p + off) (accessedBy s to name off a x (wayBy (x .records) (home name) f))
+  unfolding accessedBy wayBy wayByHome
+  accessed-by off a fit (At i) h =
+      let q : lineAt (x .records) i .physical ≡ p = let d = held-home s home sim name i h in cc in
+      performed-same sim _ i off a (holder-some s (x .records) name i h .0) fit p q
+  accessed-by off a fit Nothing h =
+      let y = sim-inserted homes sim to name p w low own h e in
+      let l = inserted-line homes sim to name p w low own h e in
+      let o = inserted-held homes sim to name p w low own h e in
+      rw e (performed-same y _ to off a o fit p (rw l))
 
-    place-stands : placeOf 1 s name / 1 ≡ placeOf 1 s name
-    place-stands = div-one _
+  pub accessed-same : (off : ℕ) (a : Access) → off + a .width ≤ 16
+      → Same s home a m (16 * p + off) (accessedBy s to name off a x (wayIn s home (x .records) name))
+  accessed-same off a fit = accessed-by off a fit (holderOf s (x .records) name) refl
 
-    -- the access, by what the search finds
-    accessed-by : (off : ℕ) (a : Access) → off + a .width ≤ 16 → (f : Found) → holderOf 1 s (x .records) name ≡ f
-        → Same s (homeOf s words) a m (16 * p + off) (accessedBy s name off a x (wayBy s words (x .records) name f))
-    unfolding accessedBy wayBy wayByHome
-    accessed-by off a fit (At i) h =
-        let q : lineAt (x .records) i .physical ≡ p = let d = held-home s words sim name i h in cc in
-        performed-same sim _ i off a (holder-some 1 s (x .records) name i h .0) fit p q
-    accessed-by off a fit Nothing h =
-        let y = sim-inserted homes sim (placeOf 1 s name) name p w place-low place-stands h e in
-        let l = inserted-line homes sim (placeOf 1 s name) name p w place-low place-stands h e in
-        let o = inserted-held homes sim (placeOf 1 s name) name p w place-low place-stands h e in
-        rw e (performed-same y _ (placeOf 1 s name) off a o fit p (rw l))
+  loaded-by : (f : Found) → holderOf s (x .records) name ≡ f → Sim s home (loadedBy s to name p w x f) m
+  unfolding loadedBy
+  loaded-by (At i) h = sim
+  loaded-by Nothing h = sim-inserted homes sim to name p w low own h e
 
-    loaded-by : (f : Found) → holderOf 1 s (x .records) name ≡ f → Sim 1 s (homeOf s words) (loadedBy s name p w x f) m
-    unfolding loadedBy
-    loaded-by (At i) h = sim
-    loaded-by Nothing h = sim-inserted homes sim (placeOf 1 s name) name p w place-low place-stands h e
-
-    pub loaded-same : Sim 1 s (homeOf s words) (loaded s name p w x) m
-    unfolding loaded
-    loaded-same = loaded-by (holderOf 1 s (x .records) name) refl
-
-  pub accessed-same : (g : Global) (a : Access) (p : ℕ) (w : Bool) → homeOf s words (nameOf g) ≡ HomeLine p w
-      → g .0 % 16 + a .width ≤ 16 → Accessed s words g a x m p
-  unfolding accessed wayOf
-  accessed-same g a p w e fit =
-      let z = accessed-by (nameOf g) p w e (g .0 % 16) a fit (holderOf 1 s (x .records) (nameOf g)) refl in
-      record { number = z .number; value = z .value; sim = z .sim }
+  pub loaded-same : Sim s home (loadedBy s to name p w x (holderOf s (x .records) name)) m
+  loaded-same = loaded-by (holderOf s (x .records) name) refl

@@ -51,47 +51,47 @@ cond-and : (a b : Bool) (k l : Line) → b ≡ false → cond (a && b) k l ≡ l
 cond-and true b k l h = rw h
 cond-and false b k l h = refl
 
-module _ (ways : ℕ) (s : Shape) (words : List ℕ) (x : Store) (m : List ℕ) (sim : Sim ways s (homeOf s words) x m) where
+module _ (s : Shape) (words : List ℕ) (x : Store) (m : List ℕ) (sim : Sim s (homeOf s words) x m) where
   abbrev line : ℕ → Line
   line j = lineAt (x .records) j
 
   abbrev held : ℕ → Bool
-  held j = holdsAt ways s (x .records) j
+  held j = holdsAt s (x .records) j
 
   -- a record held after a sweep is one of the list
-  swept-below : (v : Visit) (j : ℕ) → holdsAt ways s (visitedAll ways s v x .records) j ≡ true → j < s .lines
+  swept-below : (v : Visit) (j : ℕ) → holdsAt s (visitedAll s v x .records) j ≡ true → j < s .lines
   swept-below v j h =
-      held-listed ways s (visitedAll ways s v x .records) j (s .lines) (swept-cache ways s v x .records-length ∙ sim .record-count) h
+      held-listed s (visitedAll s v x .records) j (s .lines) (swept-cache s v x .records-length ∙ sim .record-count) h
 
   -- ---- flush all
 
-  pub sim-flushed : Sim ways s (homeOf s words) (visitedAll ways s flushVisit x) m
-  sim-flushed = sim-retired ways s (homeOf s words) m All x sim
+  pub sim-flushed : Sim s (homeOf s words) (visitedAll s flushVisit x) m
+  sim-flushed = sim-retired s (homeOf s words) m All x sim
 
   -- ---- unmap
 
   module _ (page f : ℕ) (found : mappedTo s words page ≡ At f) where
     abbrev gone : Store
-    gone = visitedAll ways s (unmapVisit page) x
+    gone = visitedAll s (unmapVisit page) x
 
     -- a line that is still held is of another page
-    unmapped-name : (j : ℕ) → holdsAt ways s (gone .records) j ≡ true → lineAt (gone .records) j .name / pageLines ≢ page
+    unmapped-name : (j : ℕ) → holdsAt s (gone .records) j ≡ true → lineAt (gone .records) j .name / pageLines ≢ page
     unfolding fate fateOf
     unmapped-name j h =
-        let r = swept-line ways s (unmapVisit page) x j (sim .record-count) (swept-below (unmapVisit page) j h) in
-        go (holdsLine ways s j (line j)) (eqb (line j .name / pageLines) page) refl refl (rw (one-page page (line j .name)) at r)
+        let r = swept-line s (unmapVisit page) x j (sim .record-count) (swept-below (unmapVisit page) j h) in
+        go (holdsLine s j (line j)) (eqb (line j .name / pageLines) page) refl refl (rw (one-page page (line j .name)) at r)
       where
-        go : (t u : Bool) → holdsLine ways s j (line j) ≡ t → eqb (line j .name / pageLines) page ≡ u → lineAt (gone .records) j ≡ cond (t && u) noLine (line j)
+        go : (t u : Bool) → holdsLine s j (line j) ≡ t → eqb (line j .name / pageLines) page ≡ u → lineAt (gone .records) j ≡ cond (t && u) noLine (line j)
             → lineAt (gone .records) j .name / pageLines ≢ page
-        go true true t u r = clash _ h (held-line ways s (gone .records) j noLine r ∙ holds-none ways s j)
+        go true true t u r = clash _ h (held-line s (gone .records) j noLine r ∙ holds-none s j)
         go true false t u r = rw r (eqb-false _ _ u)
-        go false u t v r = clash _ h (held-line ways s (gone .records) j (line j) r ∙ t)
+        go false u t v r = clash _ h (held-line s (gone .records) j (line j) r ∙ t)
 
-    pub sim-unmapped : Sim ways s (homeOf s (set words f 0)) (visitedAll ways s (unmapVisit page) x) m
+    pub sim-unmapped : Sim s (homeOf s (set words f 0)) (visitedAll s (unmapVisit page) x) m
     sim-unmapped =
-        let r = sim-retired ways s (homeOf s words) m (One (pageNames page)) x sim in
+        let r = sim-retired s (homeOf s words) m (One (pageNames page)) x sim in
         let q = mapped-frame s words page f found in
-        kept-sim ways s (homeOf s words) (homeOf s (set words f 0)) gone gone m m r
+        kept-sim s (homeOf s words) (homeOf s (set words f 0)) gone gone m m r
         (record { records-length = refl; cache-same = refl; memory-length = refl }) refl
         (λ j h. record {
           was = h;
@@ -106,13 +106,13 @@ module _ (ways : ℕ) (s : Shape) (words : List ℕ) (x : Store) (m : List ℕ) 
 
   module _ (page f : ℕ) (write : Bool) (found : mappedTo s words page ≡ At f) where
     abbrev safe : Store
-    safe = visitedAll ways s (protectVisit page write) x
+    safe = visitedAll s (protectVisit page write) x
 
     abbrev words′ : List ℕ
     words′ = set words f (frameWord page write)
 
-    relabelled : (j : ℕ) → holdsAt ways s (safe .records) j ≡ true → (t u : Bool) → held j ≡ t → eqb (line j .name / pageLines) page ≡ u
-        → lineAt (safe .records) j ≡ cond (t && u) (permittedLine (line j) write) (line j) → Kept ways s (homeOf s words′) x safe j
+    relabelled : (j : ℕ) → holdsAt s (safe .records) j ≡ true → (t u : Bool) → held j ≡ t → eqb (line j .name / pageLines) page ≡ u
+        → lineAt (safe .records) j ≡ cond (t && u) (permittedLine (line j) write) (line j) → Kept s (homeOf s words′) x safe j
     relabelled j h true true t u r =
         let n : line j .name / pageLines ≡ page = eqb-true _ _ u in
         let q = mapped-frame s words page f found in
@@ -137,23 +137,23 @@ module _ (ways : ℕ) (s : Shape) (words : List ℕ) (x : Store) (m : List ℕ) 
           maps = rw r (home-elsewhere s words f (frameWord page write) (line j .name) (line j .physical) (line j .write) (q .inside)
               (sim .maps j t) page (q .page-is) (q .odd) n (λ z _. n (sym z ∙ frame-word-page page write)));
         }
-    relabelled j h false u t v r = clash _ h (held-same ways s (safe .records) j (x .records) r ∙ t)
+    relabelled j h false u t v r = clash _ h (held-same s (safe .records) j (x .records) r ∙ t)
 
     safe-line : (j : ℕ) → j < s .lines → lineAt (safe .records) j ≡ cond (held j && eqb (line j .name / pageLines) page) (permittedLine (line j) write) (line j)
     unfolding fate fateOf holdsAt
-    safe-line j h = rw (← one-page page (line j .name)) (swept-line ways s (protectVisit page write) x j (sim .record-count) h)
+    safe-line j h = rw (← one-page page (line j .name)) (swept-line s (protectVisit page write) x j (sim .record-count) h)
 
     -- a line that was held is still held
     safe-held : (j p : ℕ) → held j ≡ true → (t : Bool) → lineAt (safe .records) j ≡ cond t (permittedLine (line j) write) (line j)
-        → ((i : ℕ) → holdsAt ways s (safe .records) i ≡ true → lineAt (safe .records) i .physical ≡ p → ⊥) → line j .physical ≡ p → ⊥
+        → ((i : ℕ) → holdsAt s (safe .records) i ≡ true → lineAt (safe .records) i .physical ≡ p → ⊥) → line j .physical ≡ p → ⊥
     unfolding holdsAt
-    safe-held j p h true r free q = free j (held-line ways s (safe .records) j (permittedLine (line j) write) r ∙ (holds-permitted ways s j (line j) write ∙ h)) (rw r q)
-    safe-held j p h false r free q = free j (held-line ways s (safe .records) j (line j) r ∙ h) (rw r q)
+    safe-held j p h true r free q = free j (held-line s (safe .records) j (permittedLine (line j) write) r ∙ (holds-permitted s j (line j) write ∙ h)) (rw r q)
+    safe-held j p h false r free q = free j (held-line s (safe .records) j (line j) r ∙ h) (rw r q)
 
-    pub sim-protected : Sim ways s (homeOf s (set words f (frameWord page write))) (visitedAll ways s (protectVisit page write) x) m
+    pub sim-protected : Sim s (homeOf s (set words f (frameWord page write))) (visitedAll s (protectVisit page write) x) m
     sim-protected =
-        let e = swept-memory-permit ways s x (One (pageNames page)) write in
-        kept-sim ways s (homeOf s words) (homeOf s words′) x safe m m sim (swept-cache ways s (protectVisit page write) x) refl
+        let e = swept-memory-permit s x (One (pageNames page)) write in
+        kept-sim s (homeOf s words) (homeOf s words′) x safe m m sim (swept-cache s (protectVisit page write) x) refl
         (λ j h. relabelled j h (held j) (eqb (line j .name / pageLines) page) refl refl (safe-line j (swept-below (protectVisit page write) j h)))
         (λ j k h g. rw e) (λ j k h g. refl)
         (λ p k free b g. rw e (sim .bare p k (λ j h. safe-held j p h (held j && eqb (line j .name / pageLines) page) (safe-line j (held-below sim j h)) free) b g))
@@ -163,14 +163,14 @@ module _ (ways : ℕ) (s : Shape) (words : List ℕ) (x : Store) (m : List ℕ) 
   module _ (words-are : length words ≡ s .frames) (frames-max : s .frames ≤ maxFrames) (page frame : ℕ) (write : Bool) (ordinary : ordinaryPage page ≡ true)
       (inside : frame < s .frames) (free : getD words frame 0 ≡ 0) (unmapped : mappedTo s words page ≡ Nothing) where
     abbrev clear : Store
-    clear = visitedAll ways s (mapVisit page frame) x
+    clear = visitedAll s (mapVisit page frame) x
 
     abbrev given : List ℕ
     given = set words frame (frameWord page write)
 
     clear-line : (j : ℕ) → j < s .lines → lineAt (clear .records) j ≡ cond (held j && (eqb (line j .name / pageLines) page || eqb (line j .name / pageLines) (directPage frame))) noLine (line j)
     unfolding fate fateOf holdsAt
-    clear-line j h = rw (← two-pages page (directPage frame) (line j .name)) (swept-line ways s (mapVisit page frame) x j (sim .record-count) h)
+    clear-line j h = rw (← two-pages page (directPage frame) (line j .name)) (swept-line s (mapVisit page frame) x j (sim .record-count) h)
 
     -- a line outside the frame's prefix 1 range is in another frame, and one in another frame is outside the page and the range
     out-frame : (n p : ℕ) (w : Bool) → Homed s words n p w → n / pageLines ≢ directPage frame → p / pageLines ≢ frame
@@ -183,12 +183,12 @@ module _ (ways : ℕ) (s : Shape) (words : List ℕ) (x : Store) (m : List ℕ) 
         let l = ordinary-low (n / pageLines) a in
         ((λ q. clash _ (word-names (getD words (p / pageLines) 0) page (e ∙ q) g) (mapped-nothing s words page ordinary unmapped (p / pageLines) c d)), omega arith)
 
-    cleared : (j : ℕ) → holdsAt ways s (clear .records) j ≡ true → (t u : Bool) → held j ≡ t
+    cleared : (j : ℕ) → holdsAt s (clear .records) j ≡ true → (t u : Bool) → held j ≡ t
         → (eqb (line j .name / pageLines) page || eqb (line j .name / pageLines) (directPage frame)) ≡ u
         → lineAt (clear .records) j ≡ cond (t && u) noLine (line j)
-        → Kept ways s (homeOf s given) x (zeroedStore frame clear) j × (lineAt (clear .records) j .physical / pageLines ≢ frame)
-    cleared j h true true t u r = clash _ h (held-line ways s (clear .records) j noLine r ∙ holds-none ways s j)
-    cleared j h false u t v r = clash _ h (held-same ways s (clear .records) j (x .records) r ∙ t)
+        → Kept s (homeOf s given) x (zeroedStore frame clear) j × (lineAt (clear .records) j .physical / pageLines ≢ frame)
+    cleared j h true true t u r = clash _ h (held-line s (clear .records) j noLine r ∙ holds-none s j)
+    cleared j h false u t v r = clash _ h (held-same s (clear .records) j (x .records) r ∙ t)
     cleared j h true false t u r =
         let n = or-false (eqb (line j .name / pageLines) page) (eqb (line j .name / pageLines) (directPage frame)) u in
         let h₁ = sim .maps j t in
@@ -204,11 +204,11 @@ module _ (ways : ℕ) (s : Shape) (words : List ℕ) (x : Store) (m : List ℕ) 
           rw r o,
         )
 
-    cleared-at : (j : ℕ) → holdsAt ways s (clear .records) j ≡ true
-        → Kept ways s (homeOf s given) x (zeroedStore frame clear) j × (lineAt (clear .records) j .physical / pageLines ≢ frame)
+    cleared-at : (j : ℕ) → holdsAt s (clear .records) j ≡ true
+        → Kept s (homeOf s given) x (zeroedStore frame clear) j × (lineAt (clear .records) j .physical / pageLines ≢ frame)
     cleared-at j h = cleared j h (held j) _ refl refl (clear-line j (swept-below (mapVisit page frame) j h))
 
-    clear-bare : (p k : ℕ) → ((j : ℕ) → holdsAt ways s (clear .records) j ≡ true → lineAt (clear .records) j .physical ≡ p → ⊥) → p < pageLines * s .frames → k < 16
+    clear-bare : (p k : ℕ) → ((j : ℕ) → holdsAt s (clear .records) j ≡ true → lineAt (clear .records) j .physical ≡ p → ⊥) → p < pageLines * s .frames → k < 16
         → (t : Bool) → eqb (p / pageLines) frame ≡ t → byte (zeroedFrame m frame) p k ≡ byte (zeroedFrame (x .memory) frame) p k
     clear-bare p k none g h true t =
         let q : p / pageLines ≡ frame = eqb-true _ _ t in
@@ -223,14 +223,14 @@ module _ (ways : ℕ) (s : Shape) (words : List ℕ) (x : Store) (m : List ℕ) 
             (rw z (eqb-false (p / pageLines) frame t)) in
             let b : (eqb (line j .name / pageLines) page || eqb (line j .name / pageLines) (directPage frame)) ≡ false = rw (ne-eqb _ _ (a .0), ne-eqb _ _ (a .1)) in
             let r : lineAt (clear .records) j ≡ line j = clear-line j (held-below sim j o) ∙ cond-and (held j) _ noLine (line j) b in
-            none j (held-same ways s (clear .records) j (x .records) r ∙ o) (rw r z)
+            none j (held-same s (clear .records) j (x .records) r ∙ o) (rw r z)
 
     -- the lines of the page and of the frame's prefix 1 range dropped, and the frame filled with zeros
-    pub sim-cleared : Sim ways s (homeOf s (set words frame (frameWord page write))) (zeroedStore frame (visitedAll ways s (mapVisit page frame) x)) (zeroedFrame m frame)
+    pub sim-cleared : Sim s (homeOf s (set words frame (frameWord page write))) (zeroedStore frame (visitedAll s (mapVisit page frame) x)) (zeroedFrame m frame)
     sim-cleared =
-        let e = swept-memory-drop ways s x (Two (pageNames page) (pageNames (directPage frame))) in
-        let a = swept-cache ways s (mapVisit page frame) x in
-        kept-sim ways s (homeOf s words) (homeOf s given) x (zeroedStore frame clear) m (zeroedFrame m frame) sim
+        let e = swept-memory-drop s x (Two (pageNames page) (pageNames (directPage frame))) in
+        let a = swept-cache s (mapVisit page frame) x in
+        kept-sim s (homeOf s words) (homeOf s given) x (zeroedStore frame clear) m (zeroedFrame m frame) sim
         (record { records-length = a .records-length; cache-same = a .cache-same; memory-length = length-zeroed (clear .memory) frame ∙ a .memory-length })
         (length-zeroed m frame) (λ j h. cleared-at j h .0)
         (λ j k h g. rw e (zeroed-line-out (x .memory) frame (lineAt (clear .records) j .physical) k (cleared-at j h .1) g))
@@ -253,11 +253,11 @@ module _ (ways : ℕ) (s : Shape) (words : List ℕ) (x : Store) (m : List ℕ) 
         let i : 16 * (at / 16) + (at % 16 + k) ≡ at + k = omega arith in
         sym (rw i at a))
 
-    pub sim-memory : (v : ℕ) → Sim ways s (homeOf s words) (store (x .records) (x .cache) (stored (x .memory) at width v)) (stored m at width v)
+    pub sim-memory : (v : ℕ) → Sim s (homeOf s words) (store (x .records) (x .cache) (stored (x .memory) at width v)) (stored m at width v)
     unfolding stored
     sim-memory v =
         let n = length-digits width v in
-        kept-sim ways s (homeOf s words) (homeOf s words) x (store (x .records) (x .cache) (stored (x .memory) at width v)) m (stored m at width v) sim
+        kept-sim s (homeOf s words) (homeOf s words) x (store (x .records) (x .cache) (stored (x .memory) at width v)) m (stored m at width v) sim
         (record { records-length = refl; cache-same = refl; memory-length = length-stored (x .memory) at width v }) (length-stored m at width v)
         (λ j h. record { was = h; physical-is = refl; changed-is = refl; maps = sim .maps j h })
         (λ j k h g. splice-apart (x .memory) at (digits width v) (at / 16) (line j .physical) k (omega arith) (omega arith) (memory-free j h) g)

@@ -6,7 +6,7 @@ use mathlib.Core.Bool.{Bool, true, false, not, _&&_, _||_}
 use mathlib.Core.List.{List, [], _∷_, _++_}
 use native.Mathlib.Omega.{arith}
 use lib.Dec.{eqb}
-use lib.ListN.{length, getD}
+use lib.ListN.{getD}
 use borrow.Author.Tests.{eqb-true, eqb-false, eq-eqb, ltb-true, leb-false, not-false}
 use Rattle.address.specs.Layout.{kernelStart, processSlots}
 use Rattle.address.specs.Addresses.{slotOf, pageOf}
@@ -15,7 +15,6 @@ use Rattle.slots.specs.Slots.{slotIndex, slotSegment, slotWrites, slotEmpty}
 use Rattle.pages.specs.Pages.{wordWrites, mappedTo}
 use Rattle.board.specs.declared.Shape.{Shape}
 use Rattle.board.proofs.Bools.{and-rest, or-left, or-right, or-false}
-use Rattle.board.proofs.Shapes.{Shaped}
 use Rattle.stores.specs.declared.Access.{Access}
 use Rattle.machine.specs.Refusals.{row, isProcess, alignedTo}
 use Rattle.machine.specs.Accesses.{slotWordAt, userGlobal, userRows}
@@ -25,7 +24,7 @@ use Rattle.promises.specs.Plain.{Plain, plainRow1, addressFrame, address
 use Rattle.promises.specs.Runs.{tag}
 use Rattle.promises.specs.Demand3.{wordHolds, wordWritesTo, someSlot, holds, holdsForWriting, segmentOfPage}
 use Rattle.page_laws.proofs.Maps.{Mapped, mapped-frame, found-at}
-use Rattle.promises.proofs.Shapes.{plain-shaped}
+use Rattle.promises.proofs.Shapes.{PlainShaped, plain-shaped}
 
 -- a slot of the process that passes the test: one of its slots does
 some-slot : (test : ℕ → Bool) (slots : List ℕ) (process i n : ℕ) → i < n → test (getD slots (slotIndex process i) 0) ≡ true
@@ -47,7 +46,7 @@ UserPassed s p process a e =
     ∷ row 9 (a .store && not (wordWrites (getD (p .words) (addressFrame s p (userGlobal (p .slots) process e)) 0))) ∷ [])))
 
 pub record Admitted (s : Shape) (p : Plain) (process : ℕ) (a : Access) (e : Effective) : Type 0 where
-  pub facts : Shaped s (length (p .slots)) (length (p .words)) (p .recordsLength) (p .cacheLength) (length (p .memory))
+  pub facts : PlainShaped s p
   pub process-low : process < s .processes
   pub slot-low : slotOf e < processSlots
   pub not-empty : slotEmpty (slotWordAt (p .slots) process e) ≡ false

@@ -1,7 +1,7 @@
--- Demand 3 on the plain machine: what one process gets does not depend on the accesses of the others. Stands on Views.
+-- Demand 3 on the plain machine: what one process gets does not depend on the accesses of the others. Stands on Views and Runs.
 use Prim.Native.Nat.{ℕ, _/_, _<_}
 use mathlib.Core.Path.{_≡_, refl, sym, ap, _∙_}
-use mathlib.Core.Bool.{Bool, true, false, _||_, cond}
+use mathlib.Core.Bool.{Bool, true, false, cond}
 use mathlib.Core.List.{List, [], _∷_}
 use lib.Dec.{eqb}
 use borrow.Author.Tests.{eqb-true, eqb-false}
@@ -9,17 +9,16 @@ use Rattle.address.specs.Layout.{pageLines}
 use Rattle.pages.specs.Pages.{mappedTo}
 use Rattle.board.specs.declared.Shape.{Shape}
 use Rattle.board.specs.declared.Found.the-variants.{At}
-use Rattle.board.proofs.Bools.{or-left, or-right}
 use Rattle.promises.specs.Plain.{Plain, plainLook}
-use Rattle.promises.specs.Runs.{Call, user, supervisor, plainReply, plainStep, plainAfter}
+use Rattle.promises.specs.Runs.{ran, someMoment, Call, user, supervisor, plainReply, plainStep, plainNext, plainAfter}
 use Rattle.promises.specs.Demand3.{holds, holdsForWriting, ApartIn, withoutOthers, SameFor, plainRepliesTo, segmentOfPage}
+use Rattle.promises.proofs.Runs.{moment-now, moment-later}
 use Rattle.promises.proofs.Views.{AlikeIn, alike-step, alike-aside, alike-reply, alike-look, alike-words, alike-same}
 
 -- ---- what is held at some moment of a plain run
 
-unfoldable pub plainEver : (List ℕ → Bool) → Shape → Plain → List Call → Bool
-plainEver test s p [] = test (p .slots)
-plainEver test s p (k ∷ ks) = test (p .slots) || plainEver test s (plainStep s p k .after) ks
+abbrev pub plainEver : (List ℕ → Bool) → Shape → Plain → List Call → Bool
+plainEver test s p ks = someMoment (λ q. test (q .slots)) (plainNext s) p ks
 
 -- the premise, of a plain run
 abbrev pub PlainApart : Shape → Plain → List Call → ℕ → Type 0
@@ -33,18 +32,6 @@ pub record PlainSame (s : Shape) (p : Plain) (ks ls : List Call) (process : ℕ)
       → mappedTo s (plainAfter s p ks .words) page ≡ At frame → line / pageLines ≡ frame
       → plainLook s (plainAfter s p ks) line ≡ plainLook s (plainAfter s p ls) line
 
--- ---- moments
-
-module _ (test : List ℕ → Bool) (s : Shape) where
-  ever-now : (p : Plain) (ks : List Call) → test (p .slots) ≡ true → plainEver test s p ks ≡ true
-  unfolding plainEver
-  ever-now p [] h = h
-  ever-now p (k ∷ ks) h = or-left (test (p .slots)) (plainEver test s (plainStep s p k .after) ks) h
-
-  ever-later : (p : Plain) (k : Call) (ks : List Call) → plainEver test s (plainStep s p k .after) ks ≡ true → plainEver test s p (k ∷ ks) ≡ true
-  unfolding plainEver
-  ever-later p k ks h = or-right (test (p .slots)) (plainEver test s (plainStep s p k .after) ks) h
-
 -- ---- a run, and the run without the accesses of the others
 
 -- what the process holds is in S, and what another process holds for writing is not
@@ -55,8 +42,8 @@ record Split (S : ℕ → Bool) (s : Shape) (p : Plain) (ks : List Call) (proces
 
 split-later : (S : ℕ → Bool) (s : Shape) (p : Plain) (k : Call) (ks : List Call) (process : ℕ) → Split S s p (k ∷ ks) process → Split S s (plainStep s p k .after) ks process
 split-later S s p k ks process h = record {
-  own = λ segment e. h .own segment (ever-later (λ slots. holds slots process segment) s p k ks e);
-  foreign = λ segment other b d e. h .foreign segment other b d (ever-later (λ slots. holdsForWriting slots other segment) s p k ks e);
+  own = λ segment e. h .own segment (moment-later (plainNext s) (λ q. holds (q .slots) process segment) p k ks e);
+  foreign = λ segment other b d e. h .foreign segment other b d (moment-later (plainNext s) (λ q. holdsForWriting (q .slots) other segment) p k ks e);
 }
 
 record Without (S : ℕ → Bool) (s : Shape) (process : ℕ) (p q : Plain) (ks : List Call) : Type 0 where
@@ -65,7 +52,7 @@ record Without (S : ℕ → Bool) (s : Shape) (process : ℕ) (p q : Plain) (ks 
 
 module _ (S : ℕ → Bool) (s : Shape) (process : ℕ) where
   without : (p q : Plain) (ks : List Call) → AlikeIn S s p q → Split S s p ks process → Without S s process p q ks
-  unfolding plainRepliesTo plainAfter withoutOthers
+  unfolding plainRepliesTo ran withoutOthers
   without p q [] h k = record { replies = refl; ends = h }
   without p q (supervisor c ∷ ks) h k =
       let later = without (plainStep s p (supervisor c) .after) (plainStep s q (supervisor c) .after) ks (alike-step S s p q h (supervisor c))
@@ -79,10 +66,10 @@ module _ (S : ℕ → Bool) (s : Shape) (process : ℕ) where
       rest = split-later S s p (user u a e) ks process k
 
       own : u ≡ process → (segment : ℕ) → holds (p .slots) u segment ≡ true → S segment ≡ true
-      own z segment i = k .own segment (ever-now (λ slots. holds slots process segment) s p (user u a e ∷ ks) (rw z at i))
+      own z segment i = k .own segment (moment-now (plainNext s) (λ x. holds (x .slots) process segment) p (user u a e ∷ ks) (rw z at i))
 
       foreign : (u ≡ process → ⊥) → (segment : ℕ) → u < s .processes → holdsForWriting (p .slots) u segment ≡ true → S segment ≡ false
-      foreign z segment b i = k .foreign segment u b z (ever-now (λ slots. holdsForWriting slots u segment) s p (user u a e ∷ ks) i)
+      foreign z segment b i = k .foreign segment u b z (moment-now (plainNext s) (λ x. holdsForWriting (x .slots) u segment) p (user u a e ∷ ks) i)
 
       go : (t : Bool) → eqb u process ≡ t → ((x y : Plain) → AlikeIn S s x y → Split S s x ks process → Without S s process x y ks)
           → (cond t (plainReply (plainStep s p (user u a e)) ∷ plainRepliesTo process s (plainStep s p (user u a e) .after) ks) (plainRepliesTo process s (plainStep s p (user u a e) .after) ks)

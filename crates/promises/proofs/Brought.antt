@@ -1,31 +1,47 @@
 -- Runs in which each call brings its own numbers. A call whose numbers don't fit is refused by 1 on both machines and changes nothing, so such a run
--- is the run of the calls that fit, and these bring the board's own numbers. Stands on Demand2, Demand3, Holding and Lengths.
+-- is the run of the calls that fit, and these bring the board's own numbers. Stands on Runs, Demand2, Demand3, Holding and Lengths.
 use Prim.{tt}
-use Prim.Native.Nat.{ℕ}
+use Prim.Native.Nat.{ℕ, _/_, _≤_}
 use mathlib.Core.Path.{_≡_, refl, sym, ap, _∙_}
 use mathlib.Core.Bool.{Bool, true, false, _||_, cond}
 use mathlib.Core.List.{List, [], _∷_}
 use native.Mathlib.Omega.{arith}
 use lib.Dec.{eqb}
 use lib.ListN.{length, getD, drop}
+use Rattle.board.specs.Shapes.{setLines, matricesOf}
 use Rattle.board.specs.declared.Shape.{Shape}
 use Rattle.board.proofs.Bools.{clash}
+use Rattle.board.proofs.Shapes.{matrices-four, matrices-none, Edition, one-line, four-lines, edition-is}
 use Rattle.machine.specs.Boards.{Board, fitsBoard, Fresh, refused}
 use Rattle.machine.specs.Looks.{lookNumber, look}
-use Rattle.promises.specs.Plain.{Given, plainLookNumber, plainLook}
-use Rattle.promises.specs.Runs.{Call, user, supervisor, Reply, reply, step, after, replies, plainOf}
+use Rattle.promises.specs.Plain.{Plain, plainLookNumber, plainLook}
+use Rattle.promises.specs.Runs.{ran, gained, someMoment, Call, user, supervisor, Reply, reply, step, next, after, plainOf}
 use Rattle.promises.specs.Demand3.{atSomeMoment, Apart, withoutOthers, SameFor, repliesTo}
-use Rattle.promises.specs.Brought.{Pinned, Brought, bring, broughtAfter, broughtReplies, plainBroughtAfter, plainBroughtReplies, Brings, own, unfit, EachBrings, bringing, OneShape, BroughtAlike, BroughtDemand2, BroughtDemand2Sound, broughtAtSomeMoment, BroughtApart, broughtWithoutOthers, broughtRepliesTo, plainBroughtRepliesTo, BroughtSameForProcess, TwoRuns, BroughtDemand3}
+use Rattle.promises.specs.Brought.{Pinned, Brought, bring, broughtNext, broughtReply, broughtAfter, broughtReplies, plainBroughtNext, plainBroughtReply, plainBroughtAfter, plainBroughtReplies, Brings, own, unfit, EachBrings, bringing, OneShape, BroughtAlike, BroughtDemand2, BroughtDemand2Sound, broughtAtSomeMoment, BroughtApart, broughtWithoutOthers, broughtRepliesTo, plainBroughtRepliesTo, BroughtSameForProcess, TwoRuns, BroughtDemand3}
 use Rattle.promises.proofs.Shapes.{board-shaped}
+use Rattle.promises.proofs.Runs.{moment-again, ran-both, gained-both}
 use Rattle.promises.proofs.Related.{lengths-same}
 use Rattle.promises.proofs.Lengths.{fits-same}
 use Rattle.promises.proofs.Soundness.{Stands, sound-of, stands-of, stands-fresh}
-use Rattle.promises.proofs.Holding.{ever-again, ever-same}
-use Rattle.promises.proofs.Follows.{Stepped}
+use Rattle.promises.proofs.Holding.{ever-same}
+use Rattle.promises.proofs.Follows.{Follows, Stepped, follows-now, follows-step, follows-reply, follows-number}
 use Rattle.promises.proofs.Demand2.{stepped, look-plain, look-number-plain, Unfit, unfit-call, unfit-keeps, unfit-stepped, look-unfit, look-number-unfit}
 use Rattle.promises.proofs.Demand3.{demand3}
 
--- ---- F, P and L are pinned by the lengths
+-- ---- F, P and L are pinned by the lengths, and so is the edition
+
+-- there are matrices with sets of four only
+few : (s t : Shape) → s .ways ≡ 1 → t .ways ≡ setLines → setLines ≤ t .lines → matricesOf s ≡ matricesOf t → ⊥
+few s t e f h m =
+    let a : 0 ≡ matricesOf s = matrices-none s (λ z. omega (arith, z, e)) in
+    let b : t .lines / setLines ≡ matricesOf t = matrices-four t _ f refl in
+    omega (arith, a, b, m, h)
+
+ways-pinned : (s t : Shape) → Edition s → Edition t → matricesOf s ≡ matricesOf t → s .ways ≡ t .ways
+ways-pinned s t (one-line e) (one-line f) m = e ∙ sym f
+ways-pinned s t (one-line e) (four-lines f h) m = absurd (few s t e f h m)
+ways-pinned s t (four-lines e h) (one-line f) m = absurd (few t s f e h (sym m))
+ways-pinned s t (four-lines e h) (four-lines f k) m = e ∙ sym f
 
 pub pinned : Pinned
 pinned s t b f g =
@@ -35,24 +51,19 @@ pinned s t b f g =
       same-frames = sym (x .words-are) ∙ y .words-are;
       same-processes = omega (arith, x .slots-are, y .slots-are);
       same-lines = omega (arith, x .records-are, y .records-are);
+      same-ways = ways-pinned s t (edition-is s (x .edition)) (edition-is t (y .edition)) (sym (x .uses-are) ∙ y .uses-are);
     }
 
 -- ---- calls that all bring the same numbers
 
 pub one-shape : OneShape
-unfolding bringing EachBrings broughtAfter after broughtReplies replies
+unfolding bringing EachBrings ran gained broughtNext broughtReply
 one-shape s b [] = record { premise-met = tt; same-after = refl; same-replies = refl }
 one-shape s b (k ∷ ks) =
     let r = one-shape s (step s b k .after) ks in
     record { premise-met = (own refl, r .premise-met); same-after = r .same-after; same-replies = ap (λ (l : List Reply). reply (step s b k .answer) ∷ l) (r .same-replies) }
 
 -- ---- demand 2: the two machines, call by call
-
-record BroughtRan (R : Board → List ℕ → Type 0) (b : Board) (m : List ℕ) (ks : List Brought) : Type 0 where
-  memory : List ℕ
-  replies-same : broughtReplies b ks ≡ plainBroughtReplies (plainOf b m) ks
-  plain-is : plainBroughtAfter (plainOf b m) ks ≡ plainOf (broughtAfter b ks) memory
-  related : R (broughtAfter b ks) memory
 
 -- from any board that a plain machine follows
 module _ (R : Board → List ℕ → Type 0) (s : Shape) (stepped : (b : Board) (m : List ℕ) (k : Call) → R b m → Stepped R s b m k)
@@ -61,14 +72,28 @@ module _ (R : Board → List ℕ → Type 0) (s : Shape) (stepped : (b : Board) 
   brought-stepped t b m k x (own e) = rw e (stepped b m k x)
   brought-stepped t b m k x (unfit f) = unfit-keeps t b m (record { no = f; same-length = lengths b m x }) R k x
 
-  brought-ran : (b : Board) (m : List ℕ) (ks : List Brought) → R b m → EachBrings s b ks → BroughtRan R b m ks
-  unfolding broughtReplies plainBroughtReplies broughtAfter plainBroughtAfter EachBrings
-  brought-ran b m [] x h = record { memory = m; replies-same = refl; plain-is = refl; related = x }
-  brought-ran b m (bring t k ∷ ks) x h =
-      let r = brought-stepped t b m k x (h .0) in
-      let e = r .given-is in
-      let i = brought-ran (step t b k .after) (r .memory) ks (r .related) (h .1) in
-      record { memory = i .memory; related = i .related; replies-same = rw (e, i .replies-same); plain-is = rw e (i .plain-is) }
+  -- a plain machine that follows, and the calls that are still to come
+  abbrev Followed : Board → Plain → List Brought → Type 0
+  Followed b p ks = Follows R b p × EachBrings s b ks
+
+  one-brought : (t : Shape) (b : Board) (p : Plain) (k : Call) (f : Follows R b p) → Brings s b t → Stepped R t b (f .memory) k
+  one-brought t b p k f h = brought-stepped t b (f .memory) k (f .related) h
+
+  still : (b : Board) (p : Plain) (k : Brought) (ks : List Brought) → Followed b p (k ∷ ks) → Followed (broughtNext b k) (plainBroughtNext p k) ks
+  unfolding broughtNext plainBroughtNext EachBrings
+  still b p (bring t k) ks f = (follows-step R t b p k (f .0) (one-brought t b p k (f .0) (f .1 .0)), f .1 .1)
+
+  same-reply : (b : Board) (p : Plain) (k : Brought) (ks : List Brought) → Followed b p (k ∷ ks) → broughtReply b k ≡ plainBroughtReply p k
+  unfolding broughtReply plainBroughtReply EachBrings
+  same-reply b p (bring t k) ks f = follows-reply R t b p k (f .0) (one-brought t b p k (f .0) (f .1 .0))
+
+  module _ (b : Board) (m : List ℕ) (ks : List Brought) (x : R b m) (h : EachBrings s b ks) where
+    brought-follows : Follows R (broughtAfter b ks) (plainBroughtAfter (plainOf b m) ks)
+    brought-follows = ran-both broughtNext plainBroughtNext Followed still b (plainOf b m) ks (follows-now R b m x, h) .0
+
+    brought-same-replies : broughtReplies b ks ≡ plainBroughtReplies (plainOf b m) ks
+    brought-same-replies =
+        gained-both broughtNext plainBroughtNext Followed still broughtReply plainBroughtReply same-reply b (plainOf b m) ks (follows-now R b m x, h)
 
   -- the replies to one process
   brought-replies-to : (process : ℕ) (b : Board) (m : List ℕ) (ks : List Brought) → R b m → EachBrings s b ks
@@ -97,14 +122,13 @@ module _ (R : Board → List ℕ → Type 0) (s : Shape) (stepped : (b : Board) 
 
     brought-alike : (b : Board) (m : List ℕ) (ks : List Brought) → R b m → EachBrings s b ks → BroughtAlike s b m ks
     brought-alike b m ks x h =
-        let r = brought-ran b m ks x h in
+        let r = brought-follows b m ks x h in
         record {
-          same-replies = r .replies-same;
+          same-replies = brought-same-replies b m ks x h;
           same-bytes = λ t i line. rw (r .plain-is) (brought-shown t (broughtAfter b ks) (r .memory) line (r .related) i);
           same-look-number = λ t i line. rw (r .plain-is) (brought-asked t (broughtAfter b ks) (r .memory) line (r .related) i);
           done-at-once = λ t i k n.
-              let y = brought-stepped t (broughtAfter b ks) (r .memory) k (r .related) i in
-              sym (ap (λ (g : Given). g .number) (y .given-is)) ∙ (rw (r .plain-is) at n);
+              sym (follows-number R t (broughtAfter b ks) (plainBroughtAfter (plainOf b m) ks) k r (one-brought t (broughtAfter b ks) _ k r i)) ∙ n;
         }
 
 stands-lengths : (s : Shape) (b : Board) (m : List ℕ) → Stands s b m → length m ≡ length (b .store .memory)
@@ -124,7 +148,7 @@ brought-demand2 s b x ks h = go (fitsBoard s b) refl
 pub brought-demand2-sound : BroughtDemand2Sound
 brought-demand2-sound s b m x y ks h =
     let z = stands-of s b m x y in
-    let r = brought-ran (Stands s) s (stepped s) (stands-lengths s) b m ks z h in
+    let r = brought-follows (Stands s) s (stepped s) (stands-lengths s) b m ks z h in
     record {
       alike = brought-alike (Stands s) s (stepped s) (stands-lengths s) (look-plain s) (look-number-plain s) b m ks z h;
       sound = sound-of s (broughtAfter b ks) (r .memory) (r .related);
@@ -188,7 +212,7 @@ module _ (fit : Shape → Bool) where
         go false f i = refuses f (unfit-call t b (b .store .memory) (record { no = h t ∙ f; same-length = refl }) k .0)
 
     after-fitting : (b : Board) (ks : List Brought) → FitsAre b → EachBrings s b ks → broughtAfter b ks ≡ after s b (fitting ks)
-    unfolding broughtAfter after fitting EachBrings
+    unfolding ran broughtNext fitting EachBrings
     after-fitting b [] h i = refl
     after-fitting b (bring t k ∷ ks) h i = go (one-call t b k h (i .0)) (after-fitting (step t b k .after) ks (fits-later t b k h) (i .1))
       where
@@ -199,14 +223,14 @@ module _ (fit : Shape → Bool) where
 
     ever-fitting : (test : List ℕ → Bool) (b : Board) (ks : List Brought) → FitsAre b → EachBrings s b ks
         → broughtAtSomeMoment test b ks ≡ atSomeMoment test s b (fitting ks)
-    unfolding broughtAtSomeMoment atSomeMoment fitting EachBrings
+    unfolding someMoment broughtNext fitting EachBrings
     ever-fitting test b [] h i = refl
     ever-fitting test b (bring t k ∷ ks) h i = go (one-call t b k h (i .0)) (ever-fitting test (step t b k .after) ks (fits-later t b k h) (i .1))
       where
         go : OneCall t b k → broughtAtSomeMoment test (step t b k .after) ks ≡ atSomeMoment test s (step t b k .after) (fitting ks)
             → (test (b .slots) || broughtAtSomeMoment test (step t b k .after) ks) ≡ atSomeMoment test s b (cond (fit t) (k ∷ fitting ks) (fitting ks))
         go (fits f e) later = rw (later, f, e)
-        go (refuses f e) later = rw (later, f, e) (ever-again test s b (fitting ks))
+        go (refuses f e) later = rw (later, f, e) (moment-again (next s) (λ c. test (c .slots)) b (fitting ks))
 
     replies-fitting : (process : ℕ) (b : Board) (ks : List Brought) → FitsAre b → EachBrings s b ks
         → broughtRepliesTo process b ks ≡ woven (broughtWithoutOthers process ks) (repliesTo process s b (fitting ks))

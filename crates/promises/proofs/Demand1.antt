@@ -19,6 +19,7 @@ use Rattle.address.specs.declared.Entry.the-variants.{At, Refused}
 use Rattle.board.specs.declared.Shape.{Shape}
 use Rattle.board.specs.declared.Answer.{Answer}
 use Rattle.board.proofs.Bools.{clash, and-left, and-right, or-right, cond-both}
+use Rattle.lines.specs.Victims.{Uses}
 use Rattle.stores.specs.Stores.{Store}
 use Rattle.reach.specs.Reach.{unreached}
 use Rattle.stores.specs.declared.Access.{Access}
@@ -26,7 +27,7 @@ use Rattle.reach.specs.declared.Way.{Way}
 use Rattle.reach.specs.declared.Way.the-variants.{Held, InMemory, Missing}
 use Rattle.machine.specs.Boards.{Board, Outcome, refused}
 use Rattle.machine.specs.Refusals.{Row, byTable, entryTable, outside, wordInUse, isOrdinary, isCached}
-use Rattle.machine.specs.Accesses.{Reached, accessedBy, accessed, performedOn, wayTo, userGlobal, userTable, userAccess, frameUnder, supervisorTable, memoryAccess, supervisorDone, supervisorAccess}
+use Rattle.machine.specs.Accesses.{Reached, accessedBy, accessed, performedOn, wayTo, victimFor, userGlobal, userTable, userAccess, frameUnder, supervisorTable, memoryAccess, supervisorDone, supervisorAccess}
 use Rattle.machine.specs.Lists.{Answered, Listed, listTable, listRefused, listDone, userAccesses}
 use Rattle.machine.specs.Calls as board
 use Rattle.machine.specs.Rising.{rising, Rises}
@@ -141,16 +142,16 @@ module _ (b : Board) (rows : List Row) (d : Outcome) (zero : Passed rows → d .
 -- ---- what is done has number 0
 
 -- an access to a line that is reached
-module _ (s : Shape) (words : List ℕ) (g : Global) (a : Access) (b : Store) where
-  accessed-by-zero : (name offset : ℕ) (way : Way) → unreached way ≡ false → accessedBy s name offset a b way .answer .number ≡ 0
+module _ (s : Shape) (words : List ℕ) (g : Global) (a : Access) (b : Store) (uses : Uses) where
+  accessed-by-zero : (to name offset : ℕ) (way : Way) → unreached way ≡ false → accessedBy s to name offset a b way .answer .number ≡ 0
   unfolding accessedBy performedOn unreached
-  accessed-by-zero name offset (Held i write) h = refl
-  accessed-by-zero name offset (InMemory line write) h = refl
-  accessed-by-zero name offset Missing h = clash true refl h
+  accessed-by-zero to name offset (Held i write) h = refl
+  accessed-by-zero to name offset (InMemory line write) h = refl
+  accessed-by-zero to name offset Missing h = clash true refl h
 
-  accessed-zero : unreached (wayTo s words (b .records) g) ≡ false → accessed s words g a b .answer .number ≡ 0
+  accessed-zero : unreached (wayTo s words (b .records) g) ≡ false → accessed s words g a b uses .reached .answer .number ≡ 0
   unfolding accessed
-  accessed-zero h = accessed-by-zero (nameOf g) (g .0 % 16) (wayTo s words (b .records) g) h
+  accessed-zero h = accessed-by-zero (victimFor s uses (b .records) g) (nameOf g) (g .0 % 16) (wayTo s words (b .records) g) h
 
   outside-table : (frame : ℕ) → outside s frame PageTable ≡ true
   unfolding outside
@@ -162,7 +163,7 @@ module _ (s : Shape) (words : List ℕ) (g : Global) (a : Access) (b : Store) wh
 
   supervisor-zero : (r : Region) → regionOf g ≡ r → (isOrdinary r && unreached (wayTo s words (b .records) g)) ≡ false
       → (isCached r && wordInUse words (frameUnder g)) ≡ false → outside s (frameUnder g) r ≡ false
-      → supervisorDone s words a g b r .answer .number ≡ 0
+      → supervisorDone s words a g b uses r .reached .answer .number ≡ 0
   unfolding supervisorDone isOrdinary isCached
   supervisor-zero Uncached e x y z = memory-zero (physicalOf g)
   supervisor-zero Cached e x y z = accessed-zero (prefix-reached s words g (region-cached g e) (b .records) y z)
@@ -175,13 +176,13 @@ module _ (s : Shape) (b : Board) where
   told-user : (process : ℕ) (a : Access) (e : Effective) → Told b (userTable s b process a e) (userAccess s b process a e)
   unfolding userAccess userTable
   told-user process a e =
-      told b (userTable s b process a e) _ (λ q. accessed-zero s (b .words) (userGlobal (b .slots) process e) a (b .store) (q 7))
+      told b (userTable s b process a e) _ (λ q. accessed-zero s (b .words) (userGlobal (b .slots) process e) a (b .store) (b .uses) (q 7))
       (tables-rise .user-access s b process a e)
 
   told-access : (a : Access) (g : Global) → Told b (supervisorTable s b a g) (supervisorAccess s b a g)
   unfolding supervisorAccess supervisorTable
   told-access a g =
-      told b (supervisorTable s b a g) _ (λ q. supervisor-zero s (b .words) g a (b .store) (regionOf g) refl (q 4) (q 5) (q 6))
+      told b (supervisorTable s b a g) _ (λ q. supervisor-zero s (b .words) g a (b .store) (b .uses) (regionOf g) refl (q 4) (q 5) (q 6))
       (tables-rise .supervisor-access s b a g)
 
   told-supervisor : (c : Supervisor) → Told b (supervisorRows s b c) (supervise s b c)

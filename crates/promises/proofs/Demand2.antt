@@ -24,7 +24,7 @@ use Rattle.promises.proofs.RelatedAccesses.{related-user, related-super
 use Rattle.promises.proofs.Lengths.{fits-same}
 use Rattle.promises.proofs.PagesOnce.{pages-once-step}
 use Rattle.promises.proofs.Soundness.{Stands, sound-of, stands-of, stands-fresh}
-use Rattle.promises.proofs.Follows.{Stepped, ran, alike}
+use Rattle.promises.proofs.Follows.{Stepped, follows-after, alike}
 
 related-supervise : (s : Shape) (b : Board) (m : List ℕ) → Stands s b m → (c : Supervisor) → Related s (supervise s b c) (plainSupervise s (plainOf b m) c)
 unfolding supervise plainSupervise
@@ -58,7 +58,7 @@ pub look-plain : (s : Shape) (b : Board) (m : List ℕ) (line : ℕ) → Stands 
 unfolding look plainLook byTable
 look-plain s b m line x = rw (lengths-same s b m (x .sim), x .fits) (go (isPhysicalLine s line) refl)
   where
-    go : (t : Bool) → isPhysicalLine s line ≡ t → cond (not t) [] (current 1 s (b .store) line) ≡ cond (not t) [] (lineOf m line)
+    go : (t : Bool) → isPhysicalLine s line ≡ t → cond (not t) [] (current s (b .store) line) ≡ cond (not t) [] (lineOf m line)
     go true t = look-same (x .sim) line (ltb-true _ _ t)
     go false t = refl
 
@@ -70,7 +70,7 @@ look-number-plain s b m line x = rw (lengths-same s b m (x .sim))
 pub demand2-sound : Demand2Sound
 demand2-sound s b m x y ks =
     let z = stands-of s b m x y in
-    let r = ran (Stands s) s (stepped s) b m ks z in
+    let r = follows-after (Stands s) s (stepped s) b m ks z in
     record { alike = alike (Stands s) s (stepped s) (look-plain s) (look-number-plain s) b m ks z; sound = sound-of s (after s b ks) (r .memory) (r .related) }
 
 -- ---- a board whose numbers or lengths don't fit: every call is refused by 1, on both machines

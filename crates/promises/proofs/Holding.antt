@@ -1,5 +1,5 @@
 -- What a process holds at some moment of a run hangs on the attaches and detaches alone, whatever the board and whatever the accesses.
--- Stands on Lengths and the table laws of `machine`.
+-- Stands on Lengths, Runs and the table laws of `machine`.
 use Prim.Native.Nat.{ℕ}
 use mathlib.Core.Path.{_≡_, refl, sym, ap, _∙_}
 use mathlib.Core.Bool.{Bool, true, false, not, _&&_, _||_, cond}
@@ -14,9 +14,10 @@ use Rattle.machine.specs.Refusals.{Row, row, byTable, isProcess, isSlot}
 use Rattle.machine.specs.Accesses.{userAccess, supervisorAccess}
 use Rattle.machine.specs.Calls as board
 use Rattle.machine.proofs.Tables.{table-both}
-use Rattle.promises.specs.Runs.{access, attach, detach, map, unmap, protect, flushAll, tag, loadAndMap, dropTag, Call, user, supervisor, supervise, step}
+use Rattle.promises.specs.Runs.{someMoment, access, attach, detach, map, unmap, protect, flushAll, tag, loadAndMap, dropTag, Call, user, supervisor, supervise, step, next}
 use Rattle.promises.specs.Demand3.{atSomeMoment, withoutOthers, SameFor, ApartEither}
 use Rattle.promises.proofs.Lengths.{fits-same}
+use Rattle.promises.proofs.Runs.{moment-again, moment-both}
 
 -- what a call makes of the slots; `fits` says whether the board fits
 unfoldable slotsBy : Shape → Bool → List ℕ → Call → List ℕ
@@ -60,36 +61,20 @@ module _ (s : Shape) (b : Board) where
 
 -- ---- at some moment
 
-or-self : (a : Bool) → (a || a) ≡ a
-or-self true = refl
-or-self false = refl
-
-or-twice : (a b : Bool) → (a || (a || b)) ≡ (a || b)
-or-twice true b = refl
-or-twice false b = refl
-
 module _ (test : List ℕ → Bool) (s : Shape) where
-  unfoldable slotsEver : Bool → List ℕ → List Call → Bool
-  slotsEver fits slots [] = test slots
-  slotsEver fits slots (k ∷ ks) = test slots || slotsEver fits (slotsBy s fits slots k) ks
+  abbrev slotsEver : Bool → List ℕ → List Call → Bool
+  slotsEver fits slots ks = someMoment test (slotsBy s fits) slots ks
 
   -- read off the slots alone
   ever-slots : (b : Board) (ks : List Call) → atSomeMoment test s b ks ≡ slotsEver (fitsBoard s b) (b .slots) ks
-  unfolding atSomeMoment slotsEver
-  ever-slots b [] = refl
-  ever-slots b (k ∷ ks) =
-      let e = ever-slots (step s b k .after) ks in
-      rw (e, fits-same s s b k, slots-step s b k)
-
-  -- the first moment counts once
-  slots-again : (fits : Bool) (slots : List ℕ) (ks : List Call) → (test slots || slotsEver fits slots ks) ≡ slotsEver fits slots ks
-  unfolding slotsEver
-  slots-again fits slots [] = or-self (test slots)
-  slots-again fits slots (k ∷ ks) = or-twice (test slots) (slotsEver fits (slotsBy s fits slots k) ks)
+  ever-slots b ks =
+      moment-both (next s) (slotsBy s (fitsBoard s b)) (λ c slots js. (fitsBoard s c ≡ fitsBoard s b) × (c .slots ≡ slots))
+      (λ c slots k js e. (fits-same s s c k ∙ e .0, slots-step s c k ∙ rw (e .0, e .1)))
+      (λ c. test (c .slots)) test (λ c slots js e. ap test (e .1)) b (b .slots) ks (refl, refl)
 
   -- the accesses of others make no moment
   slots-without : (process : ℕ) (fits : Bool) (slots : List ℕ) (ks : List Call) → slotsEver fits slots ks ≡ slotsEver fits slots (withoutOthers process ks)
-  unfolding slotsEver withoutOthers slotsBy
+  unfolding someMoment withoutOthers slotsBy
   slots-without process fits slots [] = refl
   slots-without process fits slots (supervisor c ∷ ks) = ap (λ (t : Bool). test slots || t) (slots-without process fits (slotsBy s fits slots (supervisor c)) ks)
   slots-without process fits slots (user q a e ∷ ks) = go (eqb q process) (slots-without process fits slots ks)
@@ -97,11 +82,7 @@ module _ (test : List ℕ → Bool) (s : Shape) where
       go : (t : Bool) → slotsEver fits slots ks ≡ slotsEver fits slots (withoutOthers process ks)
           → (test slots || slotsEver fits slots ks) ≡ slotsEver fits slots (cond t (user q a e ∷ withoutOthers process ks) (withoutOthers process ks))
       go true later = rw later
-      go false later = rw later (slots-again fits slots (withoutOthers process ks))
-
-  -- of a board: the first moment counts once
-  pub ever-again : (b : Board) (ks : List Call) → (test (b .slots) || atSomeMoment test s b ks) ≡ atSomeMoment test s b ks
-  ever-again b ks = rw (ever-slots b ks) (slots-again (fitsBoard s b) (b .slots) ks)
+      go false later = rw later (moment-again (slotsBy s fits) test slots (withoutOthers process ks))
 
   -- two runs with the same calls of our process and of the supervisor
   pub ever-same : (process : ℕ) (b : Board) (ks ls : List Call) → SameFor process ks ls → atSomeMoment test s b ks ≡ atSomeMoment test s b ls

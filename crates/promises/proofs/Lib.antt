@@ -1,9 +1,11 @@
--- From the bottom up. The board and the plain machine, call by call
+-- From the bottom up. Runs of any machine
+pub mod Runs
+-- the board and the plain machine, call by call
 pub mod Shapes
+pub mod Lengths
 pub mod Related
 pub mod RelatedCalls
 pub mod RelatedAccesses
-pub mod Lengths
 pub mod Holding
 pub mod PagesOnce
 pub mod Valid

@@ -1,6 +1,7 @@
 -- The limits as every call gives them. Stands on Demand1 (a number that is given is a row's that applies) and Demand2 (numbers that don't fit are
 -- refused by 1), and Lists.
-use Prim.Native.Nat.{ℕ, _*_}
+use Prim.Native.Nat.{ℕ, _≤_}
+use mathlib.Core.Logic.{_⊎_, inl, inr}
 use mathlib.Core.Path.{_≡_, _∙_, refl, sym, ap}
 use mathlib.Core.Bool.{Bool, true, false, not}
 use mathlib.Core.List.{List, _∷_}
@@ -9,12 +10,11 @@ use lib.Count.{ones, trailingZeros}
 use lib.Dec.{eqb, leb}
 use lib.ListN.{length-replicate}
 use borrow.Author.Tests.{le-leb, eq-eqb}
-use Rattle.address.specs.Layout.{processSlots}
-use Rattle.board.specs.Shapes.{limitsHold, fitsShape, maxFrames, maxProcesses, maxLines, recordWords}
+use Rattle.board.specs.Shapes.{setLines, editionHolds, limitsHold, fitsShape, maxFrames, maxProcesses, maxLines}
 use Rattle.board.specs.declared.Shape.{Shape}
 use Rattle.board.specs.declared.Answer.{Answer}
 use Rattle.board.proofs.Bools.{clash, and-left, and-right}
-use Rattle.board.proofs.Shapes.{limited}
+use Rattle.board.proofs.Shapes.{limited, edition-four, edition-other, Edition, one-line, four-lines, edition-is}
 use Rattle.lines.proofs.OneBit.{one-bit, power-one}
 use Rattle.machine.specs.Boards.{Board, fitsBoard}
 use Rattle.machine.specs.Refusals.{Row, row, row1, byTable}
@@ -31,6 +31,15 @@ use Rattle.promises.proofs.Lists.{lists-are-calls}
 
 -- ---- taken
 
+-- the two editions, as the test tells them
+edition-holds : (s : Shape) → (s .ways ≡ 1) ⊎ ((s .ways ≡ setLines) × (setLines ≤ s .lines)) → editionHolds s ≡ true
+edition-holds s (inl e) = sym (edition-other s true (λ z. omega (arith, z, e)) (sym (eq-eqb _ _ e)))
+edition-holds s (inr h) = sym (edition-four s true (h .0) (sym (le-leb _ _ (h .1))))
+
+edition-either : (s : Shape) → Edition s → (s .ways ≡ 1) ⊎ ((s .ways ≡ setLines) × (setLines ≤ s .lines))
+edition-either s (one-line e) = inl e
+edition-either s (four-lines e h) = inr (e, h)
+
 fits-within : (s : Shape) (k : ℕ) (b : Board) → Within s k → AsLong s b → fitsBoard s b ≡ true
 unfolding fitsShape
 fits-within s k b w long =
@@ -42,6 +51,7 @@ fits-within s k b w long =
       le-leb (s .processes) maxProcesses (w .processes-high),
       le-leb (s .lines) maxLines (w .lines-high),
       ap ones (w .lines-are) ∙ power-one k,
+      edition-holds s (w .edition),
       long,
     )
 
@@ -107,6 +117,7 @@ module _ (s : Shape) (b : Board) (fits : fitsBoard s b ≡ true) where
         processes-high = x .processes-max;
         lines-are = sym (one-bit 64 (s .lines) (omega (arith, x .lines-max)) (x .one));
         lines-high = x .lines-max;
+        edition = edition-either s (edition-is s (x .edition));
       }
 
   long-fits : AsLong s b
@@ -137,7 +148,5 @@ pub limits-stand : LimitsStand
 limits-stand = record {
   taken = λ s k b w long. taken-fits s b (fits-within s k b w long);
   refused-else = refused-other;
-  there-are = λ s cache memory c m.
-      rw (length-replicate {A = ℕ} (s .processes * processSlots) 0, length-replicate {A = ℕ} (s .frames) 0, length-replicate {A = ℕ} (recordWords * s .lines) 0, c, m)
-      (simp eqb-same);
+  there-are = λ s cache memory c m. rw (c, m) (simp (length-replicate, eqb-same));
 }

@@ -1,4 +1,4 @@
--- A list is its accesses as calls: by the accesses one by one, then turn by turn. Stands on Lengths and Brought.
+-- A list is its accesses as calls: by the accesses one by one, then turn by turn. Stands on Lengths, Runs and Brought.
 use Prim.Native.Nat.{ℕ, zero, suc, _+_, _*_, _<_}
 use mathlib.Core.Path.{_≡_, _∙_, refl, sym, ap, ap₂}
 use mathlib.Core.Bool.{Bool, true, false, _&&_, cond}
@@ -15,10 +15,11 @@ use Rattle.machine.specs.Boards.{Board, fitsBoard}
 use Rattle.machine.specs.Looks.{look}
 use Rattle.machine.specs.Refusals.{byTable}
 use Rattle.machine.specs.Lists.{Asked, accessWords, askAt, asksFrom, accessOn, oneByOne, Listed, taken, listRefused, listDone, userAccesses}
-use Rattle.promises.specs.Runs.{Call, user, supervisor, step, after, Reply, reply}
-use Rattle.promises.specs.Brought.{Brought, bring, broughtAfter, broughtReplies, broughtRepliesTo}
+use Rattle.promises.specs.Runs.{ran, gained, user, supervisor, step, after, Reply, reply}
+use Rattle.promises.specs.Brought.{Brought, bring, broughtNext, broughtReply, broughtAfter, broughtReplies, broughtRepliesTo}
 use Rattle.promises.specs.Lists.{asCall, firstCalls, IsCalls, Turn, single, list, turnAfter, turnReplies, turnCalls, afterTurns, repliesOf, callsOf, repliesAmong, ListsAreCalls}
 use Rattle.promises.proofs.Lengths.{fits-same}
+use Rattle.promises.proofs.Runs.{ran-more, gained-more, ran-keeps}
 use Rattle.promises.proofs.Brought.{brought-demand2, brought-demand3}
 
 -- ---- accesses one by one
@@ -27,17 +28,17 @@ abbrev bringAll : Shape → List Asked → List Brought
 bringAll s ks = map (bring s) (map asCall ks)
 
 calls-after : (s : Shape) (b : Board) (ks : List Asked) → oneByOne s b ks .after ≡ after s b (map asCall ks)
-unfolding oneByOne after step
+unfolding oneByOne ran step
 calls-after s b [] = refl
 calls-after s b (k ∷ ks) = calls-after s (accessOn s b k .after) ks
 
 brings-after : (s : Shape) (b : Board) (ks : List Asked) → oneByOne s b ks .after ≡ broughtAfter b (bringAll s ks)
-unfolding oneByOne broughtAfter step
+unfolding oneByOne ran broughtNext step
 brings-after s b [] = refl
 brings-after s b (k ∷ ks) = brings-after s (accessOn s b k .after) ks
 
 brings-replies : (s : Shape) (b : Board) (ks : List Asked) → map reply (oneByOne s b ks .answers) ≡ broughtReplies b (bringAll s ks)
-unfolding oneByOne broughtReplies step
+unfolding oneByOne gained broughtNext broughtReply step
 brings-replies s b [] = refl
 brings-replies s b (k ∷ ks) = ap (λ (l : List Reply). reply (accessOn s b k .answer) ∷ l) (brings-replies s (accessOn s b k .after) ks)
 
@@ -49,7 +50,7 @@ module _ (s : Shape) (accesses : List ℕ) where
 
   calls-each : (b : Board) (j n i : ℕ) (other : Answer) → i < n
       → getD (oneByOne s b (asksFrom accesses j n) .answers) i other ≡ step s (after s b (map asCall (asksFrom accesses j i))) (asCall (askAt accesses (j + i))) .answer
-  unfolding oneByOne asksFrom after step
+  unfolding oneByOne asksFrom ran step
   calls-each b j zero i other h = absurd (omega arith)
   calls-each b j (suc n) zero other h = rw (add-zero j) refl
   calls-each b j (suc n) (suc i) other h =
@@ -107,7 +108,7 @@ module _ (s : Shape) (b : Board) (accesses : List ℕ) (answers : List Answer) w
   by-replies t = cond t (map reply (userAccesses s b accesses answers .left .answers)) []
 
   same-list : (t : Bool) → taken s b accesses answers ≡ t → Same b (list s accesses answers)
-  unfolding turnAfter turnReplies turnCalls broughtAfter broughtReplies by-calls by-replies
+  unfolding turnAfter turnReplies turnCalls ran gained by-calls by-replies
   same-list true h =
       let e = list-taken s b accesses answers h in
       record {
@@ -126,15 +127,17 @@ module _ (s : Shape) (b : Board) (accesses : List ℕ) (answers : List Answer) w
       }
 
 same-turn : (b : Board) (t : Turn) → Same b t
-unfolding turnAfter turnReplies turnCalls broughtAfter broughtReplies
+unfolding turnAfter turnReplies turnCalls ran gained broughtNext broughtReply
 same-turn b (single s k) = record { board-same = refl; replies-same = refl }
 same-turn b (list s accesses answers) = same-list s b accesses answers (taken s b accesses answers) refl
 
 -- what fits a board fits it after any calls, so a turn stands for the same calls then
+fits-brought : (u : Shape) (b : Board) (k : Brought) → fitsBoard u (broughtNext b k) ≡ fitsBoard u b
+unfolding broughtNext
+fits-brought u b (bring s k) = fits-same u s b k
+
 fits-after : (u : Shape) (b : Board) (ks : List Brought) → fitsBoard u (broughtAfter b ks) ≡ fitsBoard u b
-unfolding broughtAfter
-fits-after u b [] = refl
-fits-after u b (bring s k ∷ ks) = fits-after u (step s b k .after) ks ∙ fits-same u s b k
+fits-after u b ks = ran-keeps broughtNext (λ c. fitsBoard u c ≡ fitsBoard u b) (λ c k e. fits-brought u c k ∙ e) b ks refl
 
 calls-kept : (b c : Board) (ts : List Turn) → ((u : Shape) → fitsBoard u c ≡ fitsBoard u b) → callsOf c ts ≡ callsOf b ts
 unfolding callsOf turnCalls
@@ -146,39 +149,29 @@ calls-kept b c (list s accesses answers ∷ ts) h =
 
 -- ---- runs
 
-after-more : (b : Board) (ks js : List Brought) → broughtAfter b (ks ++ js) ≡ broughtAfter (broughtAfter b ks) js
-unfolding broughtAfter
-after-more b [] js = refl
-after-more b (bring s k ∷ ks) js = after-more (step s b k .after) ks js
-
-replies-more : (b : Board) (ks js : List Brought) → broughtReplies b (ks ++ js) ≡ broughtReplies b ks ++ broughtReplies (broughtAfter b ks) js
-unfolding broughtReplies broughtAfter
-replies-more b [] js = refl
-replies-more b (bring s k ∷ ks) js = ap (λ (l : List Reply). reply (step s b k .answer) ∷ l) (replies-more (step s b k .after) ks js)
-
 -- the calls of the turns that follow, by the board that they come to
 rest-calls : (b : Board) (t : Turn) (ts : List Turn) → callsOf (turnAfter b t) ts ≡ callsOf b ts
 rest-calls b t ts = calls-kept b (turnAfter b t) ts (λ u. ap (fitsBoard u) (same-turn b t .board-same) ∙ fits-after u b (turnCalls b t))
 
 turns-after : (b : Board) (ts : List Turn) → afterTurns b ts ≡ broughtAfter b (callsOf b ts)
-unfolding afterTurns callsOf broughtAfter
+unfolding ran callsOf
 turns-after b [] = refl
 turns-after b (t ∷ ts) =
     turns-after (turnAfter b t) ts
     ∙ ap₂ broughtAfter (same-turn b t .board-same) (rest-calls b t ts)
-    ∙ sym (after-more b (turnCalls b t) (callsOf b ts))
+    ∙ sym (ran-more broughtNext b (turnCalls b t) (callsOf b ts))
 
 turns-replies : (b : Board) (ts : List Turn) → repliesOf b ts ≡ broughtReplies b (callsOf b ts)
-unfolding repliesOf callsOf broughtReplies
+unfolding repliesOf callsOf gained
 turns-replies b [] = refl
 turns-replies b (t ∷ ts) =
     ap₂ (λ (x y : List Reply). x ++ y) (same-turn b t .replies-same)
     (turns-replies (turnAfter b t) ts ∙ ap₂ broughtReplies (same-turn b t .board-same) (rest-calls b t ts))
-    ∙ sym (replies-more b (turnCalls b t) (callsOf b ts))
+    ∙ sym (gained-more broughtNext broughtReply b (turnCalls b t) (callsOf b ts))
 
 -- the replies to a process, picked out
 among : (process : ℕ) (b : Board) (ks : List Brought) → repliesAmong process ks (broughtReplies b ks) ≡ broughtRepliesTo process b ks
-unfolding repliesAmong broughtReplies broughtRepliesTo
+unfolding repliesAmong gained broughtNext broughtReply broughtRepliesTo
 among process b [] = refl
 among process b (bring s (user q a e) ∷ ks) =
     ap (λ (l : List Reply). cond (eqb q process) (reply (step s b (user q a e) .answer) ∷ l) l) (among process (step s b (user q a e) .after) ks)

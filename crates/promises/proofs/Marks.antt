@@ -1,13 +1,12 @@
 -- What the marks tell. Stands on Kept (what an access leaves in its record), Places (the other records) and Demand1 (what a rising table gives).
-use Prim.Native.Nat.{ℕ, _+_, _%_, _≤_}
+use Prim.Native.Nat.{ℕ, _+_, _%_, _≤_, _<_}
 use mathlib.Core.Path.{_≡_, _∙_, refl, sym, ap}
 use mathlib.Core.Bool.{Bool, true, false, _&&_}
 use mathlib.Core.List.{List}
-use native.Mathlib.Nat.{div-one}
 use native.Mathlib.Omega.{arith}
 use lib.ListN.{length}
 use lib.Dec.{eqb}
-use borrow.Author.Tests.{eqb-true, eqb-false, not-false}
+use borrow.Author.Tests.{eqb-true, not-false}
 use Rattle.address.specs.Addresses.{nameOf, regionOf, physicalOf}
 use Rattle.address.specs.declared.Effective.{Effective}
 use Rattle.address.specs.declared.Global.{Global}
@@ -22,11 +21,11 @@ use Rattle.board.specs.declared.Home.{Home}
 use Rattle.board.specs.declared.Home.the-variants.{Line as HomeLine, Nowhere}
 use Rattle.board.proofs.Bools.{clash, and-left, and-right, cond-both}
 use Rattle.pages.specs.Pages.{homeOf}
-use Rattle.pages.proofs.Frames.{home-inside}
 use Rattle.lines.specs.Records.{lineAt}
-use Rattle.lines.specs.Holds.{placeOf, holderOf, holdsAt}
+use Rattle.lines.specs.Holds.{holderOf, holdsAt}
+use Rattle.lines.specs.Victims.{Uses, recordBy}
 use Rattle.lines.specs.declared.Line.{Line}
-use Rattle.lines.proofs.Holders.{holder-at}
+use Rattle.lines.proofs.Sets.{ways-pos}
 use Rattle.stores.specs.Stores.{Store, store, mustWriteBack, writtenBack, filled, noted, inserted}
 use Rattle.stores.specs.declared.Access.{Access}
 use Rattle.reach.specs.Reach.{wayByHome, wayBy, wayOf, unreached}
@@ -34,22 +33,22 @@ use Rattle.reach.specs.declared.Way.{Way}
 use Rattle.reach.specs.declared.Way.the-variants.{Held, InMemory, Missing}
 use Rattle.machine.specs.Boards.{Board, fitsBoard, Outcome, refused, withStore}
 use Rattle.machine.specs.Refusals.{Row, byTable, isOrdinary, isCached, wordInUse, outside}
-use Rattle.machine.specs.Accesses.{Reached, performedOn, accessedBy, accessed, wayTo, onBoard, userGlobal, userTable, userAccess, frameUnder, memoryAccess, supervisorTable, supervisorDone, supervisorAccess}
+use Rattle.machine.specs.Accesses.{Reached, performedOn, accessedBy, touched, accessed, wayTo, victimFor, onBoard, userGlobal, userTable, userAccess, frameUnder, memoryAccess, supervisorTable, supervisorDone, supervisorAccess}
 use Rattle.machine.specs.Calls as calls
 use Rattle.machine.specs.Rising.{Rises}
 use Rattle.machine.proofs.Tables.{Passed, table-both, table-cases}
 use Rattle.machine.proofs.Rising.{tables-rise}
 use Rattle.machine.proofs.Alignments.{aligned-inside}
 use Rattle.machine.proofs.Prefixes.{region-cached, prefix-reached}
-use Rattle.store_laws.proofs.Held.{held-place}
+use Rattle.store_laws.proofs.Held.{holder-some, holder-nothing}
 use Rattle.promises.specs.Runs.{access, attach, detach, map, unmap, protect, flushAll, tag, loadAndMap, dropTag, Call, user, supervisor, supervise, step}
 use Rattle.promises.specs.Demand2.{OnlyAt}
 use Rattle.promises.specs.Values.{Asker, asUser, asSupervisor, asks}
 use Rattle.promises.specs.Marks.{Holding, Refilled, WroteBack, goesTo, PastCache, Exactly, Tells, MarksTell}
-use Rattle.promises.proofs.Shapes.{board-shaped, lines-pos}
-use Rattle.promises.proofs.Places.{only-accessed-by}
+use Rattle.promises.proofs.Shapes.{board-shaped, board-lined, board-sized}
+use Rattle.promises.proofs.Places.{only-home, only-found}
 use Rattle.promises.proofs.Demand1.{Tabled, passed, stopped, tabled}
-use Rattle.promises.proofs.Kept.{HeldBy, performed-held, place-is, found-held, filled-held}
+use Rattle.promises.proofs.Kept.{HeldBy, performed-held, found-held, filled-held}
 
 -- ---- exactly if
 
@@ -87,48 +86,51 @@ refused-tells s b name Past n d = record {
 -- ---- by the cache
 
 -- records but one as they were, and that one's name too
-names-kept : (p : ℕ) (x y : Store) → OnlyAt p x y → lineAt (y .records) p .name ≡ lineAt (x .records) p .name
+names-kept : (p : ℕ) (x y : Store) → OnlyAt (eqb p) x y → lineAt (y .records) p .name ≡ lineAt (x .records) p .name
     → (i : ℕ) → lineAt (y .records) i .name ≡ lineAt (x .records) i .name
-names-kept p x y o e i = go (eqb i p) refl
+names-kept p x y o e i = go (eqb p i) refl
   where
-    go : (t : Bool) → eqb i p ≡ t → lineAt (y .records) i .name ≡ lineAt (x .records) i .name
-    go true q = let z : i ≡ p = eqb-true i p q in rw z e
-    go false q = let z = o .same-records i (eqb-false i p q) in rw z
+    go : (t : Bool) → eqb p i ≡ t → lineAt (y .records) i .name ≡ lineAt (x .records) i .name
+    go true q = let z : p ≡ i = eqb-true p i q in rw (← z) e
+    go false q = let z = o .same-records i q in rw z
 
 -- a name that the search doesn't find is not held
-not-found : (s : Shape) (x : Store) (name : ℕ) → holderOf 1 s (x .records) name ≡ Nothing → Holding s x name → ⊥
-unfolding holdsAt
-not-found s x name e h =
-    let p = held-place 1 s (x .records) (h .at) (h .holds) in
-    let q : h .at ≡ name % s .lines = sym (div-one (h .at)) ∙ p ∙ rw (h .named) (simp div-one) in
-    let f = holder-at s (x .records) name (h .at) (lineAt (x .records) (h .at)) q refl true (sym (h .holds)) (h .named) refl in
-    let z : At (h .at) ≡ Nothing = f ∙ e in
-    let w : _≡_ {A = ℕ} 0 1 = cc in omega arith
+not-found : (s : Shape) (x : Store) (name : ℕ) → 0 < s .ways → holderOf s (x .records) name ≡ Nothing → Holding s x name → ⊥
+not-found s x name w e h = holder-nothing s (x .records) name (h .at) w e (h .holds) (h .named)
 
-module _ (s : Shape) (b : Board) (g : Global) (a : Access) (Past : Type 0) (past : Past → ⊥) (inside : g .0 % 16 + a .width ≤ 16) (fits : fitsBoard s b ≡ true) where
+-- one that it finds is held
+abbrev holding : (s : Shape) (x : Store) (name i : ℕ) → HeldBy s name x i → Holding s x name
+holding s x name i h = let k = holder-some s (x .records) name i (h .found) in record { at = i; named = k .1; holds = k .0 }
+
+-- an access that leaves these matrices
+module _ (s : Shape) (b : Board) (g : Global) (a : Access) (Past : Type 0) (past : Past → ⊥) (inside : g .0 % 16 + a .width ≤ 16)
+    (fits : fitsBoard s b ≡ true) (uses : Uses) where
   abbrev x : Store
   x = b .store
 
   abbrev name : ℕ
   name = nameOf g
 
+  -- where the line goes if it is not held
   abbrev p : ℕ
-  p = placeOf 1 s name
+  p = victimFor s (b .uses) (x .records) g
+
+  none-held : holderOf s (x .records) name ≡ Nothing → Holding s x name → ⊥
+  none-held = not-found s x name (ways-pos s (board-lined s b fits))
 
   -- an access to the line of record i, which holds it now, and what it leaves there
   abbrev done : ℕ → ℕ → Store → Outcome
-  done mark i z = onBoard b (performedOn i (g .0 % 16) a mark z)
+  done mark i z = onBoard b (touched (performedOn i (g .0 % 16) a mark z) uses)
 
   -- a hit
-  hit-tells : (i : ℕ) → HeldBy s name x i → OnlyAt p x (done (markOf true false) i x .after .store)
+  hit-tells : (i : ℕ) → HeldBy s name x i → OnlyAt (eqb i) x (done (markOf true false) i x .after .store)
       → Tells s x name Past (done (markOf true false) i x)
   unfolding performedOn markOf
   hit-tells i h o =
       let y = done (markOf true false) i x .after .store in
-      let q : i ≡ p = h .at-place ∙ sym (place-is s name) in
-      let k = performed-held s name (g .0 % 16) a (markOf true false) i x h in
-      let n = names-kept p x y o (rw (← q) (k .named ∙ sym (h .named))) in
-      let was : Holding s x name = record { at = i; named = h .named; holds = h .holds } in
+      let was = holding s x name i h in
+      let is = holding s y name i (performed-held s name (g .0 % 16) a (markOf true false) i x h) in
+      let n = names-kept i x y o (is .named ∙ sym (was .named)) in
       record {
         refused-0 = neither (λ e. omega arith) (λ d. d refl);
         hit-1 = both refl (refl, past, was);
@@ -142,42 +144,42 @@ module _ (s : Shape) (b : Board) (g : Global) (a : Access) (Past : Type 0) (past
       }
 
   -- a miss, by whether the line that stood at the place had to be written back
-  module _ (line : ℕ) (write : Bool) (none : holderOf 1 s (x .records) name ≡ Nothing) (h : HeldBy s name (inserted 1 s p name line write x) p) where
+  module _ (line : ℕ) (write : Bool) (none : holderOf s (x .records) name ≡ Nothing) (h : HeldBy s name (inserted s p name line write x) p) where
     abbrev missed : Bool → Outcome
-    missed t = done (markOf false t) p (inserted 1 s p name line write x)
+    missed t = done (markOf false t) p (inserted s p name line write x)
+
+    -- the record that was filled holds the line now, and none did before
+    abbrev now : (t : Bool) → Holding s (missed t .after .store) name
+    now t = holding s (missed t .after .store) name p (performed-held s name (g .0 % 16) a (markOf false t) p (inserted s p name line write x) h)
 
     refilled : (t : Bool) → Refilled s x (missed t .after .store) name
-    unfolding performedOn
-    refilled t =
-        let k = performed-held s name (g .0 % 16) a (markOf false t) p (inserted 1 s p name line write x) h in
-        record { not-before = not-found s x name none; after = record { at = p; named = k .named; holds = k .holds } }
+    refilled t = record { not-before = none-held none; after = now t }
 
-    written : mustWriteBack 1 s (x .records) p ≡ true → WroteBack s x (missed true .after .store)
+    written : mustWriteBack s (x .records) p ≡ true → WroteBack s x (missed true .after .store)
     unfolding performedOn inserted noted filled writtenBack
     written e =
-        let k = performed-held s name (g .0 % 16) a (markOf false true) p (inserted 1 s p name line write x) h in
         record {
           at = p;
           held = and-left _ _ e;
-          changed = and-right (holdsAt 1 s (x .records) p) _ e;
-          replaced = λ q. not-found s x name none (record { at = p; named = sym q ∙ k .named; holds = and-left _ _ e });
+          changed = and-right (holdsAt s (x .records) p) _ e;
+          replaced = λ q. none-held none (record { at = p; named = sym q ∙ now true .named; holds = and-left _ _ e });
           written = rw e;
         }
 
-    not-written : mustWriteBack 1 s (x .records) p ≡ false → OnlyAt p x (missed false .after .store) → WroteBack s x (missed false .after .store) → ⊥
-    not-written e o w = go (eqb (w .at) p) refl
+    not-written : mustWriteBack s (x .records) p ≡ false → OnlyAt (eqb p) x (missed false .after .store) → WroteBack s x (missed false .after .store) → ⊥
+    not-written e o w = go (eqb p (w .at)) refl
       where
-        go : (t : Bool) → eqb (w .at) p ≡ t → ⊥
+        go : (t : Bool) → eqb p (w .at) ≡ t → ⊥
         go true q =
-            let z : w .at ≡ p = eqb-true (w .at) p q in
-            clash true refl (rw (← z, w .held, w .changed) at e)
-        go false q = w .replaced (ap (λ (l : Line). l .name) (o .same-records (w .at) (eqb-false (w .at) p q)))
+            let z : p ≡ w .at = eqb-true p (w .at) q in
+            clash true refl (rw (z, w .held, w .changed) at e)
+        go false q = w .replaced (ap (λ (l : Line). l .name) (o .same-records (w .at) q))
 
-    miss-tells : (t : Bool) → mustWriteBack 1 s (x .records) p ≡ t → OnlyAt p x (missed t .after .store) → Tells s x name Past (missed t)
+    miss-tells : (t : Bool) → mustWriteBack s (x .records) p ≡ t → OnlyAt (eqb p) x (missed t .after .store) → Tells s x name Past (missed t)
     unfolding performedOn markOf inserted noted filled writtenBack
     miss-tells true e o = record {
       refused-0 = neither (λ z. omega arith) (λ d. d refl);
-      hit-1 = neither (λ z. omega arith) (λ r. not-found s x name none (r .2));
+      hit-1 = neither (λ z. omega arith) (λ r. none-held none (r .2));
       refilled-2 = neither (λ z. omega arith) (λ r. r .1 (written e));
       wrote-back-3 = both refl (written e);
       uncached-4 = neither (λ z. omega arith) (λ r. past (r .1));
@@ -188,7 +190,7 @@ module _ (s : Shape) (b : Board) (g : Global) (a : Access) (Past : Type 0) (past
     }
     miss-tells false e o = record {
       refused-0 = neither (λ z. omega arith) (λ d. d refl);
-      hit-1 = neither (λ z. omega arith) (λ r. not-found s x name none (r .2));
+      hit-1 = neither (λ z. omega arith) (λ r. none-held none (r .2));
       refilled-2 = both refl (refilled false, not-written e o);
       wrote-back-3 = neither (λ z. omega arith) (not-written e o);
       uncached-4 = neither (λ z. omega arith) (λ r. past (r .1));
@@ -199,30 +201,27 @@ module _ (s : Shape) (b : Board) (g : Global) (a : Access) (Past : Type 0) (past
     }
 
   -- the access, by what the search finds, and then by the name's home
-  only : (way : Way) → way ≡ wayTo s (b .words) (x .records) g → OnlyAt p x (accessedBy s name (g .0 % 16) a x way .after)
-  only way e = only-accessed-by s (b .words) g a x inside way e
-
-  by-home : (home : Home) → homeOf s (b .words) name ≡ home → holderOf 1 s (x .records) name ≡ Nothing → unreached (wayByHome home) ≡ false
-      → Tells s x name Past (onBoard b (accessedBy s name (g .0 % 16) a x (wayByHome home)))
-  unfolding wayByHome wayBy wayOf accessedBy unreached
+  by-home : (home : Home) → homeOf s (b .words) name ≡ home → holderOf s (x .records) name ≡ Nothing → unreached (wayByHome home) ≡ false
+      → Tells s x name Past (onBoard b (touched (accessedBy s p name (g .0 % 16) a x (wayByHome home)) uses))
+  unfolding wayByHome accessedBy unreached
   by-home (HomeLine line write) e n u =
-      let k = board-shaped s b fits in
       miss-tells line write n
-      (filled-held s name x (lines-pos s b fits) (k .records-are) (k .cache-is) line write (home-inside s (b .words) name line write (homeOf s (b .words) name) refl e (k .words-are)))
-      (mustWriteBack 1 s (x .records) p) refl (only (InMemory line write) (rw (n, e)))
+      (filled-held s name x (board-sized s b fits) (b .uses) (b .words) (board-shaped s b fits .words-are) line write e n)
+      (mustWriteBack s (x .records) p) refl (only-home s p name (g .0 % 16) a x inside (HomeLine line write))
   by-home Nowhere e n u = clash true refl u
 
-  by-found : (found : Found) → holderOf 1 s (x .records) name ≡ found → unreached (wayBy s (b .words) (x .records) name found) ≡ false
-      → Tells s x name Past (onBoard b (accessedBy s name (g .0 % 16) a x (wayBy s (b .words) (x .records) name found)))
-  unfolding wayBy wayOf accessedBy
+  by-found : (found : Found) → holderOf s (x .records) name ≡ found → unreached (wayBy (x .records) (homeOf s (b .words) name) found) ≡ false
+      → Tells s x name Past (onBoard b (touched (accessedBy s p name (g .0 % 16) a x (wayBy (x .records) (homeOf s (b .words) name) found)) uses))
+  unfolding wayBy accessedBy recordBy
   by-found (At i) e u =
-      let k = board-shaped s b fits in
-      hit-tells i (found-held s name x (lines-pos s b fits) (k .records-are) (k .cache-is) i e) (only (Held i (lineAt (x .records) i .write)) (rw e))
+      hit-tells i (found-held s name x (board-sized s b fits) i e) (only-found s p name (g .0 % 16) a x inside (homeOf s (b .words) name) (At i))
   by-found Nothing e u = by-home (homeOf s (b .words) name) refl e u
 
-  cached-tells : unreached (wayTo s (b .words) (x .records) g) ≡ false → Tells s x name Past (onBoard b (accessed s (b .words) g a x))
-  unfolding accessed wayOf
-  cached-tells u = by-found (holderOf 1 s (x .records) name) refl u
+cached-tells : (s : Shape) (b : Board) (g : Global) (a : Access) (Past : Type 0) → (Past → ⊥) → g .0 % 16 + a .width ≤ 16 → fitsBoard s b ≡ true
+    → unreached (wayTo s (b .words) (b .store .records) g) ≡ false
+    → Tells s (b .store) (nameOf g) Past (onBoard b (accessed s (b .words) g a (b .store) (b .uses)))
+unfolding accessed wayOf
+cached-tells s b g a Past past inside fits u = by-found s b g a Past past inside fits _ (holderOf s (b .store .records) (nameOf g)) refl u
 
 -- ---- past the cache
 
@@ -239,7 +238,7 @@ past-memory b at a =
     cond-both (PastMemory b) (a .store) _ _ (record { number = refl; mark = refl; records = refl; cache = refl }) (record { number = refl; mark = refl; records = refl; cache = refl })
 
 module _ (s : Shape) (b : Board) (name : ℕ) (Past : Type 0) (past : Past) (at : Physical) (a : Access) where
-  past-tells : Tells s (b .store) name Past (onBoard b (memoryAccess at a (b .store)))
+  past-tells : Tells s (b .store) name Past (onBoard b (touched (memoryAccess at a (b .store)) (b .uses)))
   past-tells =
       let m = past-memory b at a in
       let y = memoryAccess at a (b .store) .after in
@@ -282,7 +281,7 @@ user-tells : (s : Shape) (b : Board) (n : ℕ) (e : Effective) (a : Access)
 unfolding userAccess userTable
 user-tells s b n e a = table-tells s b _ ⊥ (userTable s b n a e) _ (tables-rise .user-access s b n a e) done
   where
-    done : Passed (userTable s b n a e) → Tells s (b .store) (nameOf (userGlobal (b .slots) n e)) ⊥ (onBoard b (accessed s (b .words) (userGlobal (b .slots) n e) a (b .store)))
+    done : Passed (userTable s b n a e) → Tells s (b .store) (nameOf (userGlobal (b .slots) n e)) ⊥ (onBoard b (accessed s (b .words) (userGlobal (b .slots) n e) a (b .store) (b .uses)))
     done h =
         let al = aligned-inside (a .width) (e .0) (not-false _ (h 3)) in
         cached-tells s b (userGlobal (b .slots) n e) a ⊥ (λ z. z) (omega (arith, al .inside)) (not-false (fitsBoard s b) (h 0)) (h 7)
@@ -291,7 +290,7 @@ module _ (s : Shape) (b : Board) (g : Global) (a : Access) where
   -- by the region of its address
   region-tells : (r : Region) → regionOf g ≡ r → g .0 % 16 + a .width ≤ 16 → fitsBoard s b ≡ true
       → (isOrdinary r && unreached (wayTo s (b .words) (b .store .records) g)) ≡ false → (isCached r && wordInUse (b .words) (frameUnder g)) ≡ false
-      → outside s (frameUnder g) r ≡ false → Tells s (b .store) (nameOf g) (r ≡ Uncached) (onBoard b (supervisorDone s (b .words) a g (b .store) r))
+      → outside s (frameUnder g) r ≡ false → Tells s (b .store) (nameOf g) (r ≡ Uncached) (onBoard b (supervisorDone s (b .words) a g (b .store) (b .uses) r))
   unfolding supervisorDone isOrdinary isCached outside
   region-tells Uncached q i f h w o = past-tells s b (nameOf g) (Uncached ≡ Uncached) refl (physicalOf g) a
   region-tells Cached q i f h w o =
@@ -303,7 +302,7 @@ module _ (s : Shape) (b : Board) (g : Global) (a : Access) where
   unfolding supervisorAccess supervisorTable
   supervisor-tells = table-tells s b (nameOf g) (regionOf g ≡ Uncached) (supervisorTable s b a g) _ (tables-rise .supervisor-access s b a g) done
     where
-      done : Passed (supervisorTable s b a g) → Tells s (b .store) (nameOf g) (regionOf g ≡ Uncached) (onBoard b (supervisorDone s (b .words) a g (b .store) (regionOf g)))
+      done : Passed (supervisorTable s b a g) → Tells s (b .store) (nameOf g) (regionOf g ≡ Uncached) (onBoard b (supervisorDone s (b .words) a g (b .store) (b .uses) (regionOf g)))
       done h =
           let al = aligned-inside (a .width) (g .0) (not-false _ (h 3)) in
           region-tells (regionOf g) refl (al .inside) (not-false (fitsBoard s b) (h 0)) (h 4) (h 5) (h 6)
@@ -343,17 +342,18 @@ module _ (s : Shape) (b : Board) (cache memory : List ℕ) (c : length cache ≡
   by-rows rows d e h = table-both OneMark (refused other) (refused b) (λ n. refl) rows d e (λ z. h)
 
   module _ (a : Access) where
-    way-mark : (name offset : ℕ) (way : Way) → accessedBy s name offset a (other .store) way .answer .mark ≡ accessedBy s name offset a (b .store) way .answer .mark
+    way-mark : (to name offset : ℕ) (way : Way) → accessedBy s to name offset a (other .store) way .answer .mark ≡ accessedBy s to name offset a (b .store) way .answer .mark
     unfolding accessedBy performedOn
-    way-mark name offset (Held i write) = refl
-    way-mark name offset (InMemory line write) = refl
-    way-mark name offset Missing = refl
+    way-mark to name offset (Held i write) = refl
+    way-mark to name offset (InMemory line write) = refl
+    way-mark to name offset Missing = refl
 
-    line-mark : (g : Global) → accessed s (b .words) g a (other .store) .answer .mark ≡ accessed s (b .words) g a (b .store) .answer .mark
+    line-mark : (g : Global) → accessed s (b .words) g a (other .store) (b .uses) .reached .answer .mark ≡ accessed s (b .words) g a (b .store) (b .uses) .reached .answer .mark
     unfolding accessed
-    line-mark g = way-mark (nameOf g) (g .0 % 16) (wayTo s (b .words) (b .store .records) g)
+    line-mark g = way-mark (victimFor s (b .uses) (b .store .records) g) (nameOf g) (g .0 % 16) (wayTo s (b .words) (b .store .records) g)
 
-    region-mark : (g : Global) (r : Region) → supervisorDone s (b .words) a g (other .store) r .answer .mark ≡ supervisorDone s (b .words) a g (b .store) r .answer .mark
+    region-mark : (g : Global) (r : Region)
+        → supervisorDone s (b .words) a g (other .store) (b .uses) r .reached .answer .mark ≡ supervisorDone s (b .words) a g (b .store) (b .uses) r .reached .answer .mark
     unfolding supervisorDone
     region-mark g Uncached = past-memory other (physicalOf g) a .mark ∙ sym (past-memory b (physicalOf g) a .mark)
     region-mark g Cached = line-mark g

@@ -21,13 +21,13 @@ use Rattle.promises.proofs.Shapes.{board-shaped}
 pub record Related (s : Shape) (o : Outcome) (g : Given) : Type 0 where
   pub memory : List ℕ
   pub given-is : g ≡ given (o .answer .number) (o .answer .value) (plainOf (o .after) memory)
-  pub sim : Sim 1 s (homeOf s (o .after .words)) (o .after .store) memory
+  pub sim : Sim s (homeOf s (o .after .words)) (o .after .store) memory
 
 -- no two names have one home on a board that fits
 pub board-homes : (s : Shape) (b : Board) → fitsBoard s b ≡ true → Homes s (homeOf s (b .words))
 board-homes s b h = homes-map s (b .words) (board-shaped s b h .words-are)
 
-module _ (s : Shape) (b : Board) (m : List ℕ) (x : Sim 1 s (homeOf s (b .words)) (b .store) m) where
+module _ (s : Shape) (b : Board) (m : List ℕ) (x : Sim s (homeOf s (b .words)) (b .store) m) where
   -- the two memories are as long, so number 1 asks the same of both machines
   pub lengths-same : length m ≡ length (b .store .memory)
   lengths-same = x .flat-count ∙ sym (x .memory-count)
@@ -36,7 +36,7 @@ module _ (s : Shape) (b : Board) (m : List ℕ) (x : Sim 1 s (homeOf s (b .words
   related-refused n = record { memory = m; given-is = refl; sim = x }
 
   -- done alike: the plain machine has the board's slots, words and tag, and the lengths have not changed
-  pub related-done : (a : Answer) (c : Board) (n : List ℕ) → Sim 1 s (homeOf s (c .words)) (c .store) n
+  pub related-done : (a : Answer) (c : Board) (n : List ℕ) → length (c .uses) ≡ length (b .uses) → Sim s (homeOf s (c .words)) (c .store) n
       → Related s (outcome a c) (given (a .number) (a .value) (record {
         slots = c .slots;
         words = c .words;
@@ -44,12 +44,13 @@ module _ (s : Shape) (b : Board) (m : List ℕ) (x : Sim 1 s (homeOf s (b .words
         memory = n;
         recordsLength = length (b .store .records);
         cacheLength = length (b .store .cache);
+        usesLength = length (b .uses);
       }))
-  related-done a c n y = record {
+  related-done a c n u y = record {
     memory = n;
     sim = y;
     given-is = let e : length (b .store .records) ≡ length (c .store .records) = x .record-count ∙ sym (y .record-count) in
-        let f : length (b .store .cache) ≡ length (c .store .cache) = x .cache-count ∙ sym (y .cache-count) in rw (e, f);
+        let f : length (b .store .cache) ≡ length (c .store .cache) = x .cache-count ∙ sym (y .cache-count) in rw (e, f, ← u);
   }
 
   -- one table on both machines: refused alike, or done alike

@@ -12,13 +12,14 @@ use Rattle.address.specs.declared.Region.{Region}
 use Rattle.address.specs.declared.Region.the-variants.{Uncached, Cached, PageTable, Ordinary}
 use Rattle.board.specs.declared.Shape.{Shape}
 use Rattle.board.proofs.Bools.{and-false, or-right, or-rest}
+use Rattle.lines.specs.Victims.{Uses}
 use Rattle.stores.specs.Stores.{Store, performedAt}
 use Rattle.stores.specs.declared.Access.{Access}
 use Rattle.reach.specs.declared.Way.{Way}
 use Rattle.reach.specs.declared.Way.the-variants.{Held, InMemory, Missing}
 use Rattle.machine.specs.Boards.{Board, fitsBoard, refused}
 use Rattle.machine.specs.Refusals.{Row, row, byTable, isProcess, isGlobal, isWidth, tooLarge, alignedTo}
-use Rattle.machine.specs.Accesses.{Reached, performedOn, accessedBy, accessed, wayTo, onBoard, userGlobal, userTable, userAccess, memoryAccess, supervisorTable, supervisorDone, supervisorAccess}
+use Rattle.machine.specs.Accesses.{Reached, performedOn, accessedBy, usesBy, Touched, touched, accessed, wayTo, victimFor, onBoard, userGlobal, userTable, userAccess, memoryAccess, supervisorTable, supervisorDone, supervisorAccess}
 use Rattle.machine.specs.Rising.{rising}
 use Rattle.promises.specs.Runs.{step, supervise, reply}
 use Rattle.promises.specs.Demand1.{supervisorRows, rowsOf, appliesIn}
@@ -78,30 +79,32 @@ bad s b (asUser n e) width v w h = rw h
 bad s b (asSupervisor g) width v w h = rw h
 
 module _ (s : Shape) (width v w : ℕ) where
-  loaded-by : (name offset : ℕ) (x : Store) (way : Way) → accessedBy s name offset (loading width v) x way ≡ accessedBy s name offset (loading width w) x way
+  loaded-by : (to name offset : ℕ) (x : Store) (way : Way) → accessedBy s to name offset (loading width v) x way ≡ accessedBy s to name offset (loading width w) x way
   unfolding accessedBy performedOn performedAt
-  loaded-by name offset x (Held i write) = refl
-  loaded-by name offset x (InMemory line write) = refl
-  loaded-by name offset x Missing = refl
+  loaded-by to name offset x (Held i write) = refl
+  loaded-by to name offset x (InMemory line write) = refl
+  loaded-by to name offset x Missing = refl
 
-  loaded : (words : List ℕ) (g : Global) (x : Store) → accessed s words g (loading width v) x ≡ accessed s words g (loading width w) x
+  loaded : (words : List ℕ) (g : Global) (x : Store) (uses : Uses) → accessed s words g (loading width v) x uses ≡ accessed s words g (loading width w) x uses
   unfolding accessed
-  loaded words g x = loaded-by (nameOf g) (g .0 % 16) x (wayTo s words (x .records) g)
+  loaded words g x uses =
+      ap (λ (r : Reached). touched r (usesBy s (victimFor s uses (x .records) g) uses (wayTo s words (x .records) g)))
+      (loaded-by (victimFor s uses (x .records) g) (nameOf g) (g .0 % 16) x (wayTo s words (x .records) g))
 
-  supervisor-loaded : (words : List ℕ) (g : Global) (x : Store) (r : Region)
-      → supervisorDone s words (loading width v) g x r ≡ supervisorDone s words (loading width w) g x r
+  supervisor-loaded : (words : List ℕ) (g : Global) (x : Store) (uses : Uses) (r : Region)
+      → supervisorDone s words (loading width v) g x uses r ≡ supervisorDone s words (loading width w) g x uses r
   unfolding supervisorDone memoryAccess
-  supervisor-loaded words g x Uncached = refl
-  supervisor-loaded words g x Cached = loaded words g x
-  supervisor-loaded words g x PageTable = refl
-  supervisor-loaded words g x Ordinary = loaded words g x
+  supervisor-loaded words g x uses Uncached = refl
+  supervisor-loaded words g x uses Cached = loaded words g x uses
+  supervisor-loaded words g x uses PageTable = refl
+  supervisor-loaded words g x uses Ordinary = loaded words g x uses
 
   load-same : (b : Board) (x : Asker) → step s b (asks x (loading width v)) ≡ step s b (asks x (loading width w))
   unfolding asks step supervise userAccess userTable supervisorAccess supervisorTable tooLarge
   load-same b (asUser n e) =
-      ap (λ (r : Reached). byTable (refused b) (userTable s b n (loading width w) e) (onBoard b r)) (loaded (b .words) (userGlobal (b .slots) n e) (b .store))
+      ap (λ (r : Touched). byTable (refused b) (userTable s b n (loading width w) e) (onBoard b r)) (loaded (b .words) (userGlobal (b .slots) n e) (b .store) (b .uses))
   load-same b (asSupervisor g) =
-      ap (λ (r : Reached). byTable (refused b) (supervisorTable s b (loading width w) g) (onBoard b r)) (supervisor-loaded (b .words) g (b .store) (regionOf g))
+      ap (λ (r : Touched). byTable (refused b) (supervisorTable s b (loading width w) g) (onBoard b r)) (supervisor-loaded (b .words) g (b .store) (b .uses) (regionOf g))
 
 -- ---- a value that was stored
 

@@ -21,7 +21,6 @@ use Rattle.pages.specs.Pages.{namesPage, frameWord, mappedTo}
 use Rattle.board.specs.declared.Shape.{Shape}
 use Rattle.board.specs.declared.Found.the-variants.{At}
 use Rattle.board.proofs.Bools.{clash, and-right}
-use Rattle.board.proofs.Shapes.{Shaped}
 use Rattle.line_bytes.specs.Bytes.{number, digits, stored, zeroedFrame}
 use Rattle.stores.specs.declared.Access.{Access}
 use Rattle.line_bytes.proofs.Bytes.{length-stored}
@@ -35,7 +34,7 @@ use Rattle.promises.specs.Demand3.{holds, holdsForWriting, segmentOfPage
 use Rattle.store_laws.proofs.Bytes.{splice-match, number-same, stored-out, line-same}
 use Rattle.store_laws.proofs.Zeroed.{length-zeroed, zeroed-in, zeroed-out}
 use Rattle.page_laws.proofs.Maps.{names-word, frame-word-page, Mapped, mapped-frame, found-at}
-use Rattle.promises.proofs.Shapes.{plain-shaped}
+use Rattle.promises.proofs.Shapes.{PlainShaped, plain-shaped}
 use Rattle.promises.proofs.Admitted.{UserPassed, Admitted, admitted, admitted-holds, admitted-writes}
 
 -- ---- views
@@ -93,9 +92,6 @@ module _ (S : ℕ → Bool) (s : Shape) (p : Plain) (n : List ℕ) (v : View S s
   abbrev q : Plain
   q = withMemory p n
 
-  abbrev Facts : Type 0
-  Facts = Shaped s (length (p .slots)) (length (p .words)) (p .recordsLength) (p .cacheLength) (length (p .memory))
-
   view-now : AlikeIn S s p q
   view-now = record { same-rest = refl; view = v }
 
@@ -108,7 +104,7 @@ module _ (S : ℕ → Bool) (s : Shape) (p : Plain) (n : List ℕ) (v : View S s
       → AlikeIn S s (byTable (plainRefused p) (plainRow1 s p ∷ rows) x .after) (byTable (plainRefused q) (plainRow1 s q ∷ rows) y .after)
   view-table = view-tables (λ (x y : Given). AlikeIn S s (x .after) (y .after)) (plainRefused p) (plainRefused q) (λ k. view-now)
 
-  view-access : Facts → (at : Physical) (a : Access) → AlikeIn S s (plainAccess p at a .after) (plainAccess q at a .after)
+  view-access : PlainShaped s p → (at : Physical) (a : Access) → AlikeIn S s (plainAccess p at a .after) (plainAccess q at a .after)
   unfolding plainAccess
   view-access f at a = go (a .store)
     where

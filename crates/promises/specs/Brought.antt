@@ -1,10 +1,12 @@
 -- Demands 2 and 3 of runs in which each call brings its own numbers F, U, P and L, as a caller's calls do.
 -- The lengths of the buffers pin F, P and L, but not U, which belongs to the board. So each call has to bring the board's own numbers, or numbers
 -- that don't fit the buffers; such a call is refused by number 1, on both machines.
+-- (The board has its matrices here, so they pin the edition too. The functions of 01's edition for C and Rust are lent none and can't notice a board of
+-- the other: a caller keeps to one edition's functions.)
 use Prim.{Unit}
 use Prim.Native.Nat.{ℕ, _/_}
 use mathlib.Core.Path.{_≡_}
-use mathlib.Core.Bool.{Bool, true, false, _||_, cond}
+use mathlib.Core.Bool.{Bool, true, false, cond}
 use mathlib.Core.List.{List, [], _∷_}
 use lib.Dec.{eqb}
 use Rattle.address.specs.Layout.{pageLines}
@@ -14,7 +16,7 @@ use Rattle.board.specs.declared.Found.the-variants.{At}
 use Rattle.machine.specs.Boards.{Board, fitsBoard, Fresh}
 use Rattle.machine.specs.Looks.{lookNumber, look}
 use Rattle.promises.specs.Plain.{Plain, plainLook, plainLookNumber}
-use Rattle.promises.specs.Runs.{Call, user, supervisor, Reply, reply, step, after, replies, plainReply, plainStep, plainOf}
+use Rattle.promises.specs.Runs.{ran, gained, someMoment, Call, user, supervisor, Reply, reply, step, next, after, replies, plainReply, plainStep, plainNext, plainOf}
 use Rattle.promises.specs.Sound.{Sound, Shows, LinesOnce, ValidHolds, ValidOnce}
 use Rattle.promises.specs.Demand3.{holds, ApartIn, segmentOfPage}
 
@@ -24,8 +26,9 @@ pub record SameButUncached (s t : Shape) : Type 0 where
   pub same-frames : s .frames ≡ t .frames
   pub same-processes : s .processes ≡ t .processes
   pub same-lines : s .lines ≡ t .lines
+  pub same-ways : s .ways ≡ t .ways
 
--- two shapes that fit the same buffers agree in F, P and L
+-- two shapes that fit the same buffers, the matrices among them, agree in F, P and L and in the lines in a set
 abbrev pub Pinned : Type 0
 Pinned = (s t : Shape) (b : Board) → fitsBoard s b ≡ true → fitsBoard t b ≡ true → SameButUncached s t
 
@@ -36,22 +39,30 @@ pub data Brought : Type 0 where
   bring : Shape → Call → Brought
 
 -- the board after a list of such calls, and the replies in order
-unfoldable pub broughtAfter : Board → List Brought → Board
-broughtAfter b [] = b
-broughtAfter b (bring t k ∷ ks) = broughtAfter (step t b k .after) ks
+unfoldable pub broughtNext : Board → Brought → Board
+broughtNext b (bring t k) = next t b k
 
-unfoldable pub broughtReplies : Board → List Brought → List Reply
-broughtReplies b [] = []
-broughtReplies b (bring t k ∷ ks) = reply (step t b k .answer) ∷ broughtReplies (step t b k .after) ks
+unfoldable pub broughtReply : Board → Brought → Reply
+broughtReply b (bring t k) = reply (step t b k .answer)
+
+abbrev pub broughtAfter : Board → List Brought → Board
+broughtAfter b ks = ran broughtNext b ks
+
+abbrev pub broughtReplies : Board → List Brought → List Reply
+broughtReplies b ks = gained broughtNext broughtReply b ks
 
 -- the plain machine, with the same calls and numbers
-unfoldable pub plainBroughtAfter : Plain → List Brought → Plain
-plainBroughtAfter p [] = p
-plainBroughtAfter p (bring t k ∷ ks) = plainBroughtAfter (plainStep t p k .after) ks
+unfoldable pub plainBroughtNext : Plain → Brought → Plain
+plainBroughtNext p (bring t k) = plainNext t p k
 
-unfoldable pub plainBroughtReplies : Plain → List Brought → List Reply
-plainBroughtReplies p [] = []
-plainBroughtReplies p (bring t k ∷ ks) = plainReply (plainStep t p k) ∷ plainBroughtReplies (plainStep t p k .after) ks
+unfoldable pub plainBroughtReply : Plain → Brought → Reply
+plainBroughtReply p (bring t k) = plainReply (plainStep t p k)
+
+abbrev pub plainBroughtAfter : Plain → List Brought → Plain
+plainBroughtAfter p ks = ran plainBroughtNext p ks
+
+abbrev pub plainBroughtReplies : Plain → List Brought → List Reply
+plainBroughtReplies p ks = gained plainBroughtNext plainBroughtReply p ks
 
 -- the numbers t, brought to the board b whose own are s
 pub data Brings (s : Shape) (b : Board) (t : Shape) : Type 0 where
@@ -106,9 +117,8 @@ BroughtDemand2Sound =
 -- ---- demand 3
 
 -- the slots pass the test at some moment of the run
-unfoldable pub broughtAtSomeMoment : (List ℕ → Bool) → Board → List Brought → Bool
-broughtAtSomeMoment test b [] = test (b .slots)
-broughtAtSomeMoment test b (bring t k ∷ ks) = test (b .slots) || broughtAtSomeMoment test (step t b k .after) ks
+abbrev pub broughtAtSomeMoment : (List ℕ → Bool) → Board → List Brought → Bool
+broughtAtSomeMoment test b ks = someMoment (λ c. test (c .slots)) broughtNext b ks
 
 abbrev pub BroughtApart : Shape → Board → List Brought → ℕ → Type 0
 BroughtApart s b ks process = ApartIn (λ test. broughtAtSomeMoment test b ks) s process

@@ -1,8 +1,10 @@
 -- Demand 2. From a fresh board, any sequence of calls gives the answers and values of the plain machine. It refuses
 -- only when that machine does. A permitted access to a mapped page is done in that same call, with at most one line refilled.
-use Prim.Native.Nat.{ℕ}
+use Prim.Native.Nat.{ℕ, _<_}
 use mathlib.Core.Path.{_≡_}
+use mathlib.Core.Bool.{Bool, false}
 use mathlib.Core.List.{List}
+use lib.Dec.{eqb}
 use Rattle.address.specs.Addresses.{nameOf, regionOf}
 use Rattle.address.specs.declared.Effective.{Effective}
 use Rattle.address.specs.declared.Global.{Global}
@@ -11,9 +13,10 @@ use Rattle.board.specs.declared.Shape.{Shape}
 use Rattle.line_bytes.specs.Bytes.{lineOf}
 use Rattle.lines.specs.Records.{lineAt}
 use Rattle.stores.specs.Stores.{Store}
-use Rattle.lines.specs.Holds.{placeOf}
+use Rattle.lines.specs.Holds.{placeOf, setAt}
+use Rattle.lines.specs.Victims.{recordFor}
 use Rattle.stores.specs.declared.Access.{Access}
-use Rattle.machine.specs.Boards.{ways, Board, Fresh}
+use Rattle.machine.specs.Boards.{Board, Fresh}
 use Rattle.machine.specs.Accesses.{userGlobal, userAccess, supervisorAccess}
 use Rattle.machine.specs.Looks.{lookNumber, look}
 use Rattle.promises.specs.Plain.{plainLook, plainLookNumber}
@@ -30,10 +33,10 @@ pub record Alike (s : Shape) (b : Board) (memory : List ℕ) (ks : List Call) : 
   -- a call that the plain machine does is done in that same call
   pub done-at-once : (k : Call) → plainStep s (plainAfter s (plainOf b memory) ks) k .number ≡ 0 → step s (after s b ks) k .answer .number ≡ 0
 
--- an access leaves every record and every line but those at one place as they were: at most one line is refilled
-pub record OnlyAt (place : ℕ) (x y : Store) : Type 0 where
-  pub same-records : (i : ℕ) → (i ≡ place → ⊥) → lineAt (y .records) i ≡ lineAt (x .records) i
-  pub same-cache : (i : ℕ) → (i ≡ place → ⊥) → lineOf (y .cache) i ≡ lineOf (x .cache) i
+-- every record and every line but those that pass the test are as they were
+pub record OnlyAt (may : ℕ → Bool) (x y : Store) : Type 0 where
+  pub same-records : (i : ℕ) → may i ≡ false → lineAt (y .records) i ≡ lineAt (x .records) i
+  pub same-cache : (i : ℕ) → may i ≡ false → lineOf (y .cache) i ≡ lineOf (x .cache) i
 
 -- of any fresh board, with the plain machine started on the same memory
 abbrev pub Demand2 : Type 0
@@ -47,12 +50,18 @@ pub record SoundRun (s : Shape) (b : Board) (memory : List ℕ) (ks : List Call)
 abbrev pub Demand2Sound : Type 0
 Demand2Sound = (s : Shape) (b : Board) (memory : List ℕ) → Sound s b → Shows s b memory → (ks : List Call) → SoundRun s b memory ks
 
--- of any board at all: an access alters no record but the one at its own place, and fills no other line
+-- the record where an access to this address goes: the one that holds its line, else the victim of its set
+abbrev pub recordTo : Shape → Board → Global → ℕ
+recordTo s b g = recordFor s (b .uses) (b .store .records) (nameOf g)
+
+-- of any board at all: an access alters no record but one, and fills no other line, so at most one line is refilled; and that record is one of its own set.
+-- (With one line in a set it is the one at its own place: `Editions.antt` of set_promises.)
 pub record Demand2Place : Type 0 where
   pub user-place : (s : Shape) (b : Board) (process : ℕ) (a : Access) (e : Effective)
-      → OnlyAt (placeOf ways s (nameOf (userGlobal (b .slots) process e))) (b .store) (userAccess s b process a e .after .store)
+      → OnlyAt (eqb (recordTo s b (userGlobal (b .slots) process e))) (b .store) (userAccess s b process a e .after .store)
   pub supervisor-place : (s : Shape) (b : Board) (a : Access) (g : Global)
-      → OnlyAt (placeOf ways s (nameOf g)) (b .store) (supervisorAccess s b a g .after .store)
+      → OnlyAt (eqb (recordTo s b g)) (b .store) (supervisorAccess s b a g .after .store)
+  pub own-set : (s : Shape) (b : Board) (g : Global) → 0 < s .ways → setAt s (recordTo s b g) ≡ placeOf s (nameOf g)
   -- prefix 0 never touches the cache
   pub prefix-0-records : (s : Shape) (b : Board) (a : Access) (g : Global) → regionOf g ≡ Uncached
       → supervisorAccess s b a g .after .store .records ≡ b .store .records

@@ -12,7 +12,7 @@ use Rattle.board.specs.declared.Shape.{Shape}
 use Rattle.board.specs.declared.Found.the-variants.{At}
 use Rattle.machine.specs.Boards.{Board, Fresh}
 use Rattle.machine.specs.Looks.{look}
-use Rattle.promises.specs.Runs.{Call, user, supervisor, Reply, reply, step, after, plainReply, plainStep, plainOf}
+use Rattle.promises.specs.Runs.{someMoment, Call, user, supervisor, Reply, reply, step, next, after, plainReply, plainStep, plainOf}
 use Rattle.promises.specs.Plain.{Plain}
 use Rattle.promises.specs.Sound.{LinesOnce, ValidHolds, ValidOnce}
 
@@ -38,9 +38,8 @@ abbrev pub holdsForWriting : List ℕ → ℕ → ℕ → Bool
 holdsForWriting slots process segment = someSlot (wordWritesTo segment) slots process processSlots
 
 -- at some moment of a run
-unfoldable pub atSomeMoment : (List ℕ → Bool) → Shape → Board → List Call → Bool
-atSomeMoment test s b [] = test (b .slots)
-atSomeMoment test s b (k ∷ ks) = test (b .slots) || atSomeMoment test s (step s b k .after) ks
+abbrev pub atSomeMoment : (List ℕ → Bool) → Shape → Board → List Call → Bool
+atSomeMoment test s b ks = someMoment (λ c. test (c .slots)) (next s) b ks
 
 abbrev pub everHolds : Shape → Board → List Call → ℕ → ℕ → Bool
 everHolds s b ks process segment = atSomeMoment (λ slots. holds slots process segment) s b ks

@@ -1,13 +1,13 @@
 -- The limits of F, U, P and L, of which CR 7 moved two, as every call gives them: number 1 comes exactly if a number is out of its limits or a buffer is
 -- not as long as the numbers say.
 use Prim.Native.Nat.{ℕ, _*_, _^_, _≤_}
-use mathlib.Core.Logic.{_≢_}
+use mathlib.Core.Logic.{_≢_, _⊎_}
 use mathlib.Core.Path.{_≡_}
 use mathlib.Core.Bool.{true}
 use mathlib.Core.List.{List}
 use lib.ListN.{length}
 use Rattle.address.specs.Layout.{lineBytes, pageBytes}
-use Rattle.board.specs.Shapes.{maxFrames, maxProcesses, maxLines, lengthsAgree}
+use Rattle.board.specs.Shapes.{maxFrames, maxProcesses, maxLines, setLines, lengthsAgree}
 use Rattle.board.specs.declared.Shape.{Shape}
 use Rattle.board.specs.declared.Answer.{Answer}
 use Rattle.machine.specs.Boards.{Board, fresh, refused}
@@ -15,7 +15,7 @@ use Rattle.machine.specs.Lists.{accessWords, listRefused, userAccesses}
 use Rattle.machine.specs.Looks.{lookNumber}
 use Rattle.promises.specs.Runs.{Call, step}
 
--- F, P and L are 1 to their limits and U is 0 to F; L has one bit set, so it is 2 to the power of some k
+-- F, P and L are 1 to their limits and U is 0 to F; L has one bit set, so it is 2 to the power of some k; a set has one line; or four, and then L is at least 4
 pub record Within (s : Shape) (k : ℕ) : Type 0 where
   pub frames-low : 1 ≤ s .frames
   pub frames-high : s .frames ≤ maxFrames
@@ -24,11 +24,13 @@ pub record Within (s : Shape) (k : ℕ) : Type 0 where
   pub processes-high : s .processes ≤ maxProcesses
   pub lines-are : s .lines ≡ 2 ^ k
   pub lines-high : s .lines ≤ maxLines
+  pub edition : (s .ways ≡ 1) ⊎ ((s .ways ≡ setLines) × (setLines ≤ s .lines))
 
 -- each buffer is as long as the numbers say
 abbrev pub AsLong : Shape → Board → Type 0
 AsLong s b =
-    lengthsAgree s (length (b .slots)) (length (b .words)) (length (b .store .records)) (length (b .store .cache)) (length (b .store .memory)) ≡ true
+    lengthsAgree s (length (b .slots)) (length (b .words)) (length (b .store .records)) (length (b .store .cache)) (length (b .store .memory)) (length (b .uses))
+    ≡ true
 
 -- no call is refused by 1, no list with five words for each answer, and no look
 pub record NotBy1 (s : Shape) (b : Board) : Type 0 where

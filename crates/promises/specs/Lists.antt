@@ -14,7 +14,7 @@ use Rattle.pages.specs.Pages.{mappedTo}
 use Rattle.machine.specs.Boards.{Board, Fresh, fitsBoard}
 use Rattle.machine.specs.Looks.{look}
 use Rattle.machine.specs.Lists.{Asked, accessWords, askAt, asksFrom, taken, listRefused, userAccesses}
-use Rattle.promises.specs.Runs.{Call, user, supervisor, step, after, Reply, reply, plainOf}
+use Rattle.promises.specs.Runs.{ran, Call, user, supervisor, step, after, Reply, reply, plainOf}
 use Rattle.promises.specs.Sound.{LinesOnce}
 use Rattle.promises.specs.Demand3.{holds, segmentOfPage}
 use Rattle.promises.specs.Brought.{Brought, bring, broughtAfter, broughtReplies, plainBroughtReplies, EachBrings, broughtAtSomeMoment, BroughtApart, TwoRuns}
@@ -65,9 +65,8 @@ turnCalls b (single s k) = bring s k ∷ []
 turnCalls b (list s accesses answers) = cond (taken s b accesses answers) (map (bring s) (firstCalls accesses (length answers))) []
 
 -- the same of a run from the board b
-unfoldable pub afterTurns : Board → List Turn → Board
-afterTurns b [] = b
-afterTurns b (t ∷ ts) = afterTurns (turnAfter b t) ts
+abbrev pub afterTurns : Board → List Turn → Board
+afterTurns b ts = ran turnAfter b ts
 
 unfoldable pub repliesOf : Board → List Turn → List Reply
 repliesOf b [] = []

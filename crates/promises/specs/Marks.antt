@@ -14,7 +14,7 @@ use Rattle.lines.specs.Records.{lineAt}
 use Rattle.lines.specs.Holds.{holdsAt}
 use Rattle.stores.specs.Stores.{Store, store}
 use Rattle.stores.specs.declared.Access.{Access}
-use Rattle.machine.specs.Boards.{ways, Board, Outcome, withStore}
+use Rattle.machine.specs.Boards.{Board, Outcome, withStore}
 use Rattle.machine.specs.Accesses.{userGlobal}
 use Rattle.promises.specs.Runs.{Call, step}
 use Rattle.promises.specs.Values.{Asker, asUser, asSupervisor, asks}
@@ -25,7 +25,7 @@ use Rattle.promises.specs.Values.{Asker, asUser, asSupervisor, asks}
 pub record Holding (s : Shape) (x : Store) (name : ℕ) : Type 0 where
   pub at : ℕ
   pub named : lineAt (x .records) at .name ≡ name
-  pub holds : holdsAt ways s (x .records) at ≡ true
+  pub holds : holdsAt s (x .records) at ≡ true
 
 -- the line of this name was refilled: no record held it, and now one does
 pub record Refilled (s : Shape) (x y : Store) (name : ℕ) : Type 0 where
@@ -36,7 +36,7 @@ pub record Refilled (s : Shape) (x y : Store) (name : ℕ) : Type 0 where
 -- stand in its own physical line. (Memory alone would not tell: they may have stood there before.)
 pub record WroteBack (s : Shape) (x y : Store) : Type 0 where
   pub at : ℕ
-  pub held : holdsAt ways s (x .records) at ≡ true
+  pub held : holdsAt s (x .records) at ≡ true
   pub changed : lineAt (x .records) at .changed ≡ true
   pub replaced : lineAt (y .records) at .name ≡ lineAt (x .records) at .name → ⊥
   pub written : y .memory ≡ withLine (x .memory) (lineAt (x .records) at .physical) (lineOf (x .cache) at)
@@ -79,6 +79,6 @@ pub record MarksTell : Type 0 where
   pub accesses : (s : Shape) (b : Board) (x : Asker) (a : Access) → Tells s (b .store) (nameOf (goesTo b x)) (PastCache x) (step s b (asks x a))
   -- a call that is no access gives 0, done or refused
   pub others : (s : Shape) (b : Board) (k : Call) → ((x : Asker) (a : Access) → asks x a ≡ k → ⊥) → step s b k .answer .mark ≡ 0
-  -- the mark goes by the records before the call and not by the bytes: other bytes in cache and memory, as many, give the same mark
+  -- the mark goes by the records (and matrices) before the call and not by the bytes: other bytes in cache and memory, as many, give the same mark
   pub by-records : (s : Shape) (b : Board) (k : Call) (cache memory : List ℕ) → length cache ≡ length (b .store .cache) → length memory ≡ length (b .store .memory)
       → step s (withStore b (store (b .store .records) cache memory)) k .answer .mark ≡ step s b k .answer .mark

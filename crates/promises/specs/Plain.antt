@@ -23,7 +23,7 @@ use Rattle.machine.specs.Refusals.{Row, row, byTable, lowest, isProcess, isSlot
 use Rattle.machine.specs.Accesses.{frameUnder}
 use Rattle.machine.specs.Calls.{foundFrame, mapRows, pageRows, loadRows}
 
--- `recordsLength` and `cacheLength` are of the buffers that the board has besides: number 1 asks for them
+-- the three lengths are of the buffers that the board has besides (records, cache bytes, matrices): number 1 asks for them
 pub record Plain : Type 0 where
   pub slots : List ℕ
   pub words : List ℕ
@@ -31,10 +31,11 @@ pub record Plain : Type 0 where
   pub memory : List ℕ
   pub recordsLength : ℕ
   pub cacheLength : ℕ
+  pub usesLength : ℕ
 
 -- number 1, of the same numbers and lengths as the board
 abbrev pub plainRow1 : Shape → Plain → Row
-plainRow1 s p = row 1 (not (fitsShape s (length (p .slots)) (length (p .words)) (p .recordsLength) (p .cacheLength) (length (p .memory))))
+plainRow1 s p = row 1 (not (fitsShape s (length (p .slots)) (length (p .words)) (p .recordsLength) (p .cacheLength) (length (p .memory)) (p .usesLength)))
 
 -- what a call gives: a number, a value and the machine after
 pub record Given : Type 0 where
@@ -53,16 +54,16 @@ plainDone p = given 0 0 p
 
 -- the machine with another memory, other slots, another tag, or other words and another memory
 abbrev pub withMemory : Plain → List ℕ → Plain
-withMemory p m = record { slots = p .slots; words = p .words; tag = p .tag; memory = m; recordsLength = p .recordsLength; cacheLength = p .cacheLength }
+withMemory p m = record { slots = p .slots; words = p .words; tag = p .tag; memory = m; recordsLength = p .recordsLength; cacheLength = p .cacheLength; usesLength = p .usesLength }
 
 abbrev pub plainSlots : Plain → List ℕ → Plain
-plainSlots p slots = record { slots = slots; words = p .words; tag = p .tag; memory = p .memory; recordsLength = p .recordsLength; cacheLength = p .cacheLength }
+plainSlots p slots = record { slots = slots; words = p .words; tag = p .tag; memory = p .memory; recordsLength = p .recordsLength; cacheLength = p .cacheLength; usesLength = p .usesLength }
 
 abbrev pub plainTag : Plain → Pending → Plain
-plainTag p t = record { slots = p .slots; words = p .words; tag = t; memory = p .memory; recordsLength = p .recordsLength; cacheLength = p .cacheLength }
+plainTag p t = record { slots = p .slots; words = p .words; tag = t; memory = p .memory; recordsLength = p .recordsLength; cacheLength = p .cacheLength; usesLength = p .usesLength }
 
 abbrev pub plainWords : Plain → List ℕ → List ℕ → Plain
-plainWords p words m = record { slots = p .slots; words = words; tag = p .tag; memory = m; recordsLength = p .recordsLength; cacheLength = p .cacheLength }
+plainWords p words m = record { slots = p .slots; words = words; tag = p .tag; memory = m; recordsLength = p .recordsLength; cacheLength = p .cacheLength; usesLength = p .usesLength }
 
 -- ---- accesses: a load or a store of flat memory
 

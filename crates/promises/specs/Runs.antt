@@ -1,6 +1,6 @@
 -- Runs: lists of calls, what they answer, and the board after them.
 use Prim.Native.Nat.{ℕ}
-use mathlib.Core.Bool.{Bool}
+use mathlib.Core.Bool.{Bool, _||_}
 use mathlib.Core.List.{List, [], _∷_}
 use lib.ListN.{length}
 use Rattle.address.specs.declared.Effective.{Effective}
@@ -31,6 +31,23 @@ pub data Call : Type 0 where
   user : ℕ → Access → Effective → Call  -- process; load or store, width, value; effective address
   supervisor : Supervisor → Call
 
+-- ---- runs of any machine, by what a turn leaves of its state, and what it gives
+
+-- the state after a list of turns. A moment of a run is the state after a first part of its list
+unfoldable pub ran : {State Turn : Type 0} → (State → Turn → State) → State → List Turn → State
+ran next x [] = x
+ran next x (k ∷ ks) = ran next (next x k) ks
+
+-- what the turns give, in order
+unfoldable pub gained : {State Turn Gain : Type 0} → (State → Turn → State) → (State → Turn → Gain) → State → List Turn → List Gain
+gained next gives x [] = []
+gained next gives x (k ∷ ks) = gives x k ∷ gained next gives (next x k) ks
+
+-- the state passes the test at some moment
+unfoldable pub someMoment : {State Turn : Type 0} → (State → Bool) → (State → Turn → State) → State → List Turn → Bool
+someMoment test next x [] = test x
+someMoment test next x (k ∷ ks) = test x || someMoment test next (next x k) ks
+
 -- ---- the board
 
 unfoldable pub supervise : Shape → Board → Supervisor → Outcome
@@ -49,10 +66,12 @@ unfoldable pub step : Shape → Board → Call → Outcome
 step s b (user process a e) = userAccess s b process a e
 step s b (supervisor c) = supervise s b c
 
--- the board after a list of calls. A moment of a run is the board after a first part of its list
-unfoldable pub after : Shape → Board → List Call → Board
-after s b [] = b
-after s b (k ∷ ks) = after s (step s b k .after) ks
+-- the board after a call, and after a list of calls
+abbrev pub next : Shape → Board → Call → Board
+next s b k = step s b k .after
+
+abbrev pub after : Shape → Board → List Call → Board
+after s b ks = ran (next s) b ks
 
 -- a number and a value: what is the same on both machines
 pub record Reply : Type 0 where
@@ -63,9 +82,8 @@ abbrev pub reply : Answer → Reply
 reply a = record { number = a .number; value = a .value }
 
 -- the replies in order
-unfoldable pub replies : Shape → Board → List Call → List Reply
-replies s b [] = []
-replies s b (k ∷ ks) = reply (step s b k .answer) ∷ replies s (step s b k .after) ks
+abbrev pub replies : Shape → Board → List Call → List Reply
+replies s b ks = gained (next s) (λ c k. reply (step s c k .answer)) b ks
 
 -- ---- the plain machine
 
@@ -85,16 +103,17 @@ unfoldable pub plainStep : Shape → Plain → Call → Given
 plainStep s p (user process a e) = plainUser s p process a e
 plainStep s p (supervisor c) = plainSupervise s p c
 
-unfoldable pub plainAfter : Shape → Plain → List Call → Plain
-plainAfter s p [] = p
-plainAfter s p (k ∷ ks) = plainAfter s (plainStep s p k .after) ks
+abbrev pub plainNext : Shape → Plain → Call → Plain
+plainNext s p k = plainStep s p k .after
+
+abbrev pub plainAfter : Shape → Plain → List Call → Plain
+plainAfter s p ks = ran (plainNext s) p ks
 
 abbrev pub plainReply : Given → Reply
 plainReply x = record { number = x .number; value = x .value }
 
-unfoldable pub plainReplies : Shape → Plain → List Call → List Reply
-plainReplies s p [] = []
-plainReplies s p (k ∷ ks) = plainReply (plainStep s p k) ∷ plainReplies s (plainStep s p k .after) ks
+abbrev pub plainReplies : Shape → Plain → List Call → List Reply
+plainReplies s p ks = gained (plainNext s) (λ q k. plainReply (plainStep s q k)) p ks
 
 -- the plain machine with a board's slots, words, tag and lengths, and this memory
 abbrev pub plainOf : Board → List ℕ → Plain
@@ -105,4 +124,5 @@ plainOf b memory = record {
   memory = memory;
   recordsLength = length (b .store .records);
   cacheLength = length (b .store .cache);
+  usesLength = length (b .uses);
 }

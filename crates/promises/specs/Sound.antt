@@ -1,7 +1,7 @@
 -- Sound boards: the rules by which a board can be checked, each with its own name.
 use Prim.Native.Nat.{ℕ, _*_, _≤_, _<_}
 use mathlib.Core.Path.{_≡_}
-use mathlib.Core.Bool.{Bool, true, false}
+use mathlib.Core.Bool.{true, false}
 use mathlib.Core.List.{List}
 use lib.ListN.{length, getD}
 use Rattle.address.specs.Layout.{pageLines}
@@ -13,7 +13,7 @@ use Rattle.line_bytes.specs.Bytes.{lineOf}
 use Rattle.lines.specs.Records.{lineAt}
 use Rattle.stores.specs.Stores.{Store, current}
 use Rattle.lines.specs.Holds.{holdsAt}
-use Rattle.machine.specs.Boards.{ways, Board, fitsBoard, Fresh}
+use Rattle.machine.specs.Boards.{Board, fitsBoard, Fresh}
 
 -- the lengths agree and the limits hold
 abbrev pub ShapeHolds : Shape → Board → Type 0
@@ -28,20 +28,20 @@ PagesOnce s words =
 -- no physical line is held twice
 abbrev pub LinesOnce : Shape → Store → Type 0
 LinesOnce s x =
-    (i j : ℕ) → holdsAt ways s (x .records) i ≡ true → holdsAt ways s (x .records) j ≡ true
+    (i j : ℕ) → holdsAt s (x .records) i ≡ true → holdsAt s (x .records) j ≡ true
     → lineAt (x .records) i .physical ≡ lineAt (x .records) j .physical → i ≡ j
 
 -- each held line's physical line is the one its name maps to, with that page's permission
 -- (a prefix 1 line: its frame is from U up with word 0, and it may be written; any other name maps to nothing)
 abbrev pub LinesMapped : Shape → List ℕ → Store → Type 0
 LinesMapped s words x =
-    (i : ℕ) → holdsAt ways s (x .records) i ≡ true
+    (i : ℕ) → holdsAt s (x .records) i ≡ true
     → homeOf s words (lineAt (x .records) i .name) ≡ Line (lineAt (x .records) i .physical) (lineAt (x .records) i .write)
 
 -- every unchanged held line equals memory
 abbrev pub CleanLinesEqual : Shape → Store → Type 0
 CleanLinesEqual s x =
-    (i : ℕ) → holdsAt ways s (x .records) i ≡ true → lineAt (x .records) i .changed ≡ false
+    (i : ℕ) → holdsAt s (x .records) i ≡ true → lineAt (x .records) i .changed ≡ false
     → lineOf (x .cache) i ≡ lineOf (x .memory) (lineAt (x .records) i .physical)
 
 pub record Sound (s : Shape) (b : Board) : Type 0 where
@@ -58,7 +58,7 @@ FreshSound = (s : Shape) (b : Board) → Fresh b → ShapeHolds s b → Sound s 
 -- every valid record holds a line. No rule of a sound board (a board from elsewhere may have valid records that hold nothing),
 -- but it is so on a fresh one, and stays so
 abbrev pub ValidHolds : Shape → Store → Type 0
-ValidHolds s x = (i : ℕ) → lineAt (x .records) i .valid ≡ true → holdsAt ways s (x .records) i ≡ true
+ValidHolds s x = (i : ℕ) → lineAt (x .records) i .valid ≡ true → holdsAt s (x .records) i ≡ true
 
 -- no physical line stands in two valid records
 abbrev pub ValidOnce : Store → Type 0
@@ -69,4 +69,4 @@ ValidOnce x =
 -- a flat memory has the bytes that the board shows at every physical line
 pub record Shows (s : Shape) (b : Board) (memory : List ℕ) : Type 0 where
   pub same-length : length memory ≡ length (b .store .memory)
-  pub same-lines : (line : ℕ) → line < pageLines * s .frames → current ways s (b .store) line ≡ lineOf memory line
+  pub same-lines : (line : ℕ) → line < pageLines * s .frames → current s (b .store) line ≡ lineOf memory line

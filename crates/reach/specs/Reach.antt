@@ -17,13 +17,14 @@ unfoldable pub wayByHome : Home → Way
 wayByHome (HomeLine line write) = InMemory line write
 wayByHome Nowhere = Missing
 
-unfoldable pub wayBy : Shape → List ℕ → List ℕ → ℕ → Found → Way
-wayBy s words records name (At i) = Held i (lineAt records i .write)
-wayBy s words records name Nothing = wayByHome (homeOf s words name)
+-- by the home of its name, and the record that holds it
+unfoldable pub wayBy : List ℕ → Home → Found → Way
+wayBy records home (At i) = Held i (lineAt records i .write)
+wayBy records home Nothing = wayByHome home
 
 -- the way to the line of this name, with the permission to write: from the record if the line is held, else from the page map
-unfoldable pub wayOf : ℕ → Shape → List ℕ → List ℕ → ℕ → Way
-wayOf ways s words records name = wayBy s words records name (holderOf ways s records name)
+unfoldable pub wayOf : Shape → List ℕ → List ℕ → ℕ → Way
+wayOf s words records name = wayBy records (homeOf s words name) (holderOf s records name)
 
 -- no record holds the line, and its name maps to nothing
 unfoldable pub unreached : Way → Bool

@@ -1,10 +1,9 @@
 // How a line is reached: by the record that holds it, else where its name maps to.
 ghost use mathlib.Core.Path.{_≡_};
-ghost use Prim.Native.Nat.{_*_, _≤_};
-ghost use lib.Count.{ones};
+ghost use Prim.Native.Nat.{_*_};
 ghost use lib.ListN.{length};
 ghost use Rattle.address.specs.Addresses.{nameOf};
-ghost use Rattle.board.specs.Shapes.{maxFrames};
+ghost use Rattle.lines.specs.Premises.{Lined};
 ghost use Rattle.reach.specs.Reach.{wayOf};
 use address::Global;
 use board::Found;
@@ -21,8 +20,8 @@ pub enum Way {
 
 // How the line of this address is reached.
 pub fn way_to(s: Shape, words: &[u64], records: &[u64], g: Global) -> Way
-    requires { ⌜ (ones (s .lines) ≡ 1) × (s .frames ≤ maxFrames) × (length (now words) ≡ s .frames) × (length (now records) ≡ 2 * s .lines) ⌝ }
-    ensures { λ r. ⌜ r ≡ wayOf 1 s (now (words .entry)) (now (records .entry)) (nameOf g) ⌝ }
+    requires { ⌜ Lined s × (length (now words) ≡ s .frames) × (length (now records) ≡ 2 * s .lines) ⌝ }
+    ensures { λ r. ⌜ r ≡ wayOf s (now (words .entry)) (now (records .entry)) (nameOf g) ⌝ }
 {
     match lines::holder_of(s, records, g.name()) {
         Found::At(i) => {

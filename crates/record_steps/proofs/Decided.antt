@@ -51,7 +51,7 @@ fit-rows : {A : Type 0} (refuse : ℕ → A) (t : Bool) → t ≡ true → (rows
 unfolding byTable
 fit-rows refuse t h rows d = rw h
 
-module _ (s : Shape) (slots : ℕ) (w : List ℕ) (lines cache memory page : ℕ) (write t : Bool) (f : t ≡ fitsShape s slots (length w) (recordWords * lines) cache memory) (a : Answer) where
+module _ (s : Shape) (slots : ℕ) (w : List ℕ) (lines cache memory page : ℕ) (write t : Bool) (f : t ≡ fitsShape s slots (length w) (recordWords * lines) cache memory 0) (a : Answer) where
   abbrev stopped : ℕ → Worded
   stopped n = worded (answer n 0 0) w
 
@@ -67,7 +67,7 @@ module _ (s : Shape) (slots : ℕ) (w : List ℕ) (lines cache memory page : ℕ
     unfolding pageFrame byFrame wordChanged
     word-on =
         rw e (table-map (byFrame stopped changed) Stop (pageRows s w page) (On (foundFrame (mappedTo s w page))))
-        ∙ fit-rows stopped (fitsShape s slots (length w) (recordWords * lines) cache memory) (sym f ∙ h) (pageRows s w page) (changed (foundFrame (mappedTo s w page)))
+        ∙ fit-rows stopped (fitsShape s slots (length w) (recordWords * lines) cache memory 0) (sym f ∙ h) (pageRows s w page) (changed (foundFrame (mappedTo s w page)))
 
     pub word-stop : (n : ℕ) → k ≡ Stop n → a ≡ answer n 0 0 → worded a w ≡ wordChanged s slots w lines cache memory page write
     unfolding byFrame
@@ -79,7 +79,7 @@ module _ (s : Shape) (slots : ℕ) (w : List ℕ) (lines cache memory page : ℕ
 
 -- ---- what `flush_number` returns
 
-module _ (s : Shape) (slots words lines cache memory : ℕ) (t : Bool) (f : t ≡ fitsShape s slots words (recordWords * lines) cache memory) (a : Answer) where
+module _ (s : Shape) (slots words lines cache memory : ℕ) (t : Bool) (f : t ≡ fitsShape s slots words (recordWords * lines) cache memory 0) (a : Answer) where
   pub number-done : t ≡ true → a ≡ answer 0 0 0 → a ≡ flushAnswer s slots words lines cache memory
   unfolding byTable
   number-done h q = rw (← f, h, q)
@@ -92,15 +92,14 @@ module _ (s : Shape) (slots words lines cache memory : ℕ) (t : Bool) (f : t �
 
 module _ (s : Shape) (slots words lines cache memory : ℕ) where
   abbrev fit : Bool
-  fit = fitsShape s slots words (recordWords * lines) cache memory
+  fit = fitsShape s slots words (recordWords * lines) cache memory 0
 
   -- so line i stands on an accepted board
   pub fit-placed : (i : ℕ) → fit ≡ true → i < lines → Placed s i cache memory
   fit-placed i h l =
-      let q : Shaped s slots words (recordWords * lines) cache memory = shaped s slots words (recordWords * lines) cache memory true (sym h) refl in
+      let q : Shaped s slots words (recordWords * lines) cache memory 0 = shaped s slots words (recordWords * lines) cache memory 0 true (sym h) refl in
       record {
-        one = q .one;
-        frames-max = q .frames-max;
+        lined = record { one = q .one; edition = q .edition; lines-max = q .lines-max; frames-max = q .frames-max };
         inside = omega (arith, l, q .records-are);
         cache-is = q .cache-is;
         memory-is = q .memory-is;
@@ -115,10 +114,10 @@ module _ (s : Shape) (slots words lines cache memory : ℕ) where
       go false q = absurd (omega (arith, q))
 
 pub word-fits : (s : Shape) (slots : ℕ) (w : List ℕ) (lines cache memory page : ℕ) (write : Bool) (a : Answer) (w₁ : List ℕ) → worded a w₁ ≡ wordChanged s slots w lines cache memory page write
-    → eqb (a .number) 0 ≡ true → fitsShape s slots (length w) (recordWords * lines) cache memory ≡ true
+    → eqb (a .number) 0 ≡ true → fitsShape s slots (length w) (recordWords * lines) cache memory 0 ≡ true
 unfolding wordChanged byTable
 word-fits s slots w lines cache memory page write a w₁ e h =
-    go (fitsShape s slots (length w) (recordWords * lines) cache memory) _ (sym (eqb-true _ _ h) ∙ ap (λ (x : Worded). x .answer .number) e)
+    go (fitsShape s slots (length w) (recordWords * lines) cache memory 0) _ (sym (eqb-true _ _ h) ∙ ap (λ (x : Worded). x .answer .number) e)
   where
     go : (t : Bool) (rest : Worded) → 0 ≡ cond (not t) (worded (answer 1 0 0) w) rest .answer .number → t ≡ true
     go true rest q = refl
@@ -135,7 +134,7 @@ module _ (s : Shape) (slots w : List ℕ) (ls : List Line) (c m : List ℕ) wher
         → ProtectLent s (lentBoard slots w ls c m) page write a (lentBoard slots w₁ (cond (eqb (a .number) 0) (linesVisited s (protectVisit page write) 0 ls) ls) c m)
     unfolding wordChanged protectLent byTable
     protect-met a w₁ e =
-        ap withLines e ∙ go (fitsShape s (length slots) (length w) (recordWords * length ls) (length c) (length m)) (ordinaryPage page) (isMapped (mappedTo s w page))
+        ap withLines e ∙ go (fitsShape s (length slots) (length w) (recordWords * length ls) (length c) (length m) 0) (ordinaryPage page) (isMapped (mappedTo s w page))
       where
         go : (t o p : Bool)
             → withLines (cond (not t) (worded (answer 1 0 0) w) (cond (not o) (worded (answer 2 0 0) w) (cond (not p) (worded (answer 8 0 0) w) (worded (answer 0 0 0) (protectedWords s w page write)))))
@@ -149,7 +148,7 @@ module _ (s : Shape) (slots w : List ℕ) (ls : List Line) (c m : List ℕ) wher
   pub flush-met : (a : Answer) → a ≡ flushAnswer s (length slots) (length w) (length ls) (length c) (length m)
       → FlushLent s (lentBoard slots w ls c m) a (lentBoard slots w (cond (eqb (a .number) 0) (linesVisited s flushVisit 0 ls) ls) c (cond (eqb (a .number) 0) (flushedMemory s 0 ls c m) m))
   unfolding flushLent byTable
-  flush-met a e = ap walked e ∙ go (fitsShape s (length slots) (length w) (recordWords * length ls) (length c) (length m))
+  flush-met a e = ap walked e ∙ go (fitsShape s (length slots) (length w) (recordWords * length ls) (length c) (length m) 0)
     where
       walked : Answer → LentOutcome
       walked x = lentOutcome x (lentBoard slots w (cond (eqb (x .number) 0) (linesVisited s flushVisit 0 ls) ls) c (cond (eqb (x .number) 0) (flushedMemory s 0 ls c m) m))

@@ -16,7 +16,7 @@ use Rattle.lines.specs.declared.Line.{Line}
 use Rattle.line_bytes.proofs.Bytes.{length-line}
 use Rattle.record_steps.specs.Lent.{treatedLine, lineVisited, lineFlushed}
 
-module _ (s : Shape) (i : ℕ) (l : Line) (t : Bool) (e : t ≡ holdsLine 1 s i l) where
+module _ (s : Shape) (i : ℕ) (l : Line) (t : Bool) (e : t ≡ holdsLine s i l) where
   pub permitted-now : (page : ℕ) (write : Bool) → (t && eqb (l .name / 256) page) ≡ true → permittedLine l write ≡ lineVisited s (protectVisit page write) i l
   unfolding lineVisited treatedLine named
   permitted-now page write h = rw (page-names page (l .name), ← e, h)
@@ -48,7 +48,7 @@ module _ (s : Shape) (i : ℕ) (l : Line) (t : Bool) (e : t ≡ holdsLine 1 s i 
 
 pub length-flushed : (s : Shape) (i : ℕ) (l : Line) (cache memory : List ℕ) → length (lineFlushed s i l cache memory) ≡ length memory
 unfolding lineFlushed
-length-flushed s i l cache memory = go (holdsLine 1 s i l && l .changed)
+length-flushed s i l cache memory = go (holdsLine s i l && l .changed)
   where
     go : (t : Bool) → length (cond t (withLine memory (l .physical) (lineOf cache i)) memory) ≡ length memory
     go true = length-line memory (l .physical) (lineOf cache i)

@@ -1,14 +1,13 @@
 -- What the code inside decides and asks; no call's definition needs these.
-use Prim.Native.Nat.{ℕ, _*_, _≤_, _<_}
+use Prim.Native.Nat.{ℕ, _*_, _<_}
 use mathlib.Core.Path.{_≡_}
 use mathlib.Core.Bool.{Bool, cond}
 use mathlib.Core.List.{List}
-use lib.Count.{ones}
 use Rattle.address.specs.Layout.{lineBytes, pageBytes}
 use Rattle.board.specs.Answers.{answer}
-use Rattle.board.specs.Shapes.{maxFrames}
 use Rattle.board.specs.declared.Answer.{Answer}
 use Rattle.board.specs.declared.Shape.{Shape}
+use Rattle.lines.specs.Premises.{Lined}
 use Rattle.machine.specs.Refusals.{byTable, lowest}
 use Rattle.record_steps.specs.Lent.{lentPageTable, lentFlushTable, protectedWords}
 
@@ -34,8 +33,7 @@ turnsWhen done lines = cond done lines 0
 
 -- line i stands on an accepted board, and its cache and memory have their lengths
 pub record Placed (s : Shape) (i cache memory : ℕ) : Type 0 where
-  pub one : ones (s .lines) ≡ 1
-  pub frames-max : s .frames ≤ maxFrames
+  pub lined : Lined s
   pub inside : i < s .lines
   pub cache-is : cache ≡ lineBytes * s .lines
   pub memory-is : memory ≡ pageBytes * s .frames

@@ -1,5 +1,5 @@
 -- 01, "The board": each line has a record. Here the records are a list of them, line 0 first, and protect and flush all are said on a board with that list.
--- What a line holds, which lines a visit is for, what the bytes become and what the tables ask are the board's own definitions, with one line in a set.
+-- What a line holds, which lines a visit is for, what the bytes become and what the tables ask are the board's own definitions. It is 01's edition: there are no matrices.
 use Prim.Native.Nat.{ℕ, suc, _*_}
 use mathlib.Core.Bool.{Bool, not, _&&_, cond}
 use mathlib.Core.List.{List, [], _∷_}
@@ -30,7 +30,7 @@ treatedLine (Permit write) l = permittedLine l write
 
 -- line i: only a held line changes
 unfoldable pub lineVisited : Shape → Visit → ℕ → Line → Line
-lineVisited s v i l = cond (holdsLine 1 s i l && selects v l) (treatedLine (v .deed) l) l
+lineVisited s v i l = cond (holdsLine s i l && selects v l) (treatedLine (v .deed) l) l
 
 -- every line, the first of the list being line i
 unfoldable pub linesVisited : Shape → Visit → ℕ → List Line → List Line
@@ -39,7 +39,7 @@ linesVisited s v i (l ∷ ls) = lineVisited s v i l ∷ linesVisited s v (suc i)
 
 -- memory after flush all at line i: its bytes at its physical line, if it is held and changed
 unfoldable pub lineFlushed : Shape → ℕ → Line → List ℕ → List ℕ → List ℕ
-lineFlushed s i l cache memory = cond (holdsLine 1 s i l && l .changed) (withLine memory (l .physical) (lineOf cache i)) memory
+lineFlushed s i l cache memory = cond (holdsLine s i l && l .changed) (withLine memory (l .physical) (lineOf cache i)) memory
 
 -- memory after flush all at every line, by rising place, the first of the list being line i
 unfoldable pub flushedMemory : Shape → ℕ → List Line → List ℕ → List ℕ → List ℕ
@@ -75,9 +75,9 @@ lentDone b = lentOutcome (answer 0 0 0) b
 
 -- ---- the tables, by the lengths of the buffers
 
--- 1: buffer lengths or F, U, P, L disagree or are out of limits; a line counts for the words of its record
+-- 1: buffer lengths or F, U, P, L disagree or are out of limits; a line counts for the words of its record, and there are no matrices
 abbrev pub lentRow1 : Shape → ℕ → ℕ → ℕ → ℕ → ℕ → Row
-lentRow1 s slots words lines cache memory = row 1 (not (fitsShape s slots words (recordWords * lines) cache memory))
+lentRow1 s slots words lines cache memory = row 1 (not (fitsShape s slots words (recordWords * lines) cache memory 0))
 
 abbrev pub lentPageTable : Shape → ℕ → List ℕ → ℕ → ℕ → ℕ → ℕ → List Row
 lentPageTable s slots words lines cache memory page = lentRow1 s slots (length words) lines cache memory ∷ pageRows s words page

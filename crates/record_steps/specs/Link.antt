@@ -1,4 +1,4 @@
--- Protect and flush all on the lines of a board of n records give what the board's own calls give: answer, slots, words, lines read by the board's own
+-- Protect and flush all on the lines of a board of n records, with no matrices, give what the board's own calls give: answer, slots, words, lines read by the board's own
 -- `lineAt`, cache and memory. The board may fit its shape or not.
 use Prim.Native.Nat.{ℕ, zero, suc, _*_}
 use mathlib.Core.Path.{_≡_}
@@ -31,6 +31,6 @@ readLent n o = lentOutcome (o .answer) (lentOf n (o .after))
 
 -- each call on the lines of a board of n records gives what the board's own call gives: answer, slots, words, lines, cache and memory
 pub record Link : Type 0 where
-  pub protect : (s : Shape) (b : Board) (n : ℕ) (page : ℕ) (write : Bool) → length (b .store .records) ≡ recordWords * n
+  pub protect : (s : Shape) (b : Board) (n : ℕ) (page : ℕ) (write : Bool) → b .uses ≡ [] → length (b .store .records) ≡ recordWords * n
       → protectLent s (lentOf n b) page write ≡ readLent n (protect s b page write)
-  pub flush-all : (s : Shape) (b : Board) (n : ℕ) → length (b .store .records) ≡ recordWords * n → flushLent s (lentOf n b) ≡ readLent n (flushAll s b)
+  pub flush-all : (s : Shape) (b : Board) (n : ℕ) → b .uses ≡ [] → length (b .store .records) ≡ recordWords * n → flushLent s (lentOf n b) ≡ readLent n (flushAll s b)

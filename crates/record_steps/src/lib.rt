@@ -1,10 +1,10 @@
 // Protect and flush all over line records: what they decide before the lines, and one line record by value.
 ghost use mathlib.Core.Path.{_≡_};
-ghost use Prim.Native.Nat.{_*_, _≤_, _<_, _^_};
-ghost use lib.Count.{ones};
+ghost use Prim.Native.Nat.{_*_, _<_, _^_};
 ghost use lib.Dec.{eqb};
 ghost use lib.ListN.{length};
-ghost use Rattle.board.specs.Shapes.{maxFrames, recordWords};
+ghost use Rattle.board.specs.Shapes.{recordWords};
+ghost use Rattle.lines.specs.Premises.{Lined};
 ghost use Rattle.visits.specs.Visits.{protectVisit, flushVisit};
 ghost use Rattle.record_steps.specs.Lent.{lineVisited, lineFlushed};
 ghost use Rattle.record_steps.specs.Checks.{Placed, worded, wordChanged, flushAnswer, turnsWhen};
@@ -30,7 +30,15 @@ pub fn protect_word(
     requires { ⌜ recordWords * lines < 2 ^ 64 ⌝ }
     ensures { λ r. ⌜ worded r (now (words .exit)) ≡ wordChanged s slots (now (words .entry)) lines cache memory page write ⌝ }
 {
-    if board::fits(s, slots, words.len(), RECORD_WORDS * lines, cache, memory) {
+    if board::fits(
+        s,
+        slots,
+        words.len(),
+        RECORD_WORDS * lines,
+        cache,
+        memory,
+        0,
+    ) {
         match page_calls::page_frame(s, words, page) {
             Frame::Stop(n) => numbered(n),
             Frame::On(f) => {
@@ -55,7 +63,7 @@ pub fn flush_number(
     requires { ⌜ recordWords * lines < 2 ^ 64 ⌝ }
     ensures { λ r. ⌜ r ≡ flushAnswer s slots words lines cache memory ⌝ }
 {
-    if board::fits(s, slots, words, RECORD_WORDS * lines, cache, memory) {
+    if board::fits(s, slots, words, RECORD_WORDS * lines, cache, memory, 0) {
         return numbered(0);
     }
     numbered(1)
@@ -73,7 +81,7 @@ pub fn turns(a: Answer, lines: usize) -> usize
 
 // What protect makes of line `i`.
 pub fn protect_line(s: Shape, i: usize, l: Line, page: u64, write: bool) -> Line
-    requires { ⌜ (ones (s .lines) ≡ 1) × (s .frames ≤ maxFrames) ⌝ }
+    requires { ⌜ Lined s ⌝ }
     ensures { λ r. ⌜ r ≡ lineVisited s (protectVisit page write) i l ⌝ }
 {
     let h = lines::holds(s, i, l);

@@ -59,6 +59,7 @@ fn sized(
             uncached: uncached,
             processes: processes,
             lines: lines,
+            ways: 1,
         },
         slots: slots,
         words: words,

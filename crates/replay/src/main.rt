@@ -116,6 +116,7 @@ fn change_slot_or_tag(
     tag: Pending,
     e: Entry,
 ) -> Tagged {
+    let none: [[[u8; 4]; 4]; 0] = [];
     let process = e.first as usize;
     let slot = e.second as usize;
     if e.kind == ATTACH {
@@ -127,6 +128,7 @@ fn change_slot_or_tag(
             records,
             cache,
             memory,
+            &none,
             process,
             slot,
             e.third,
@@ -135,7 +137,17 @@ fn change_slot_or_tag(
         return kept(a, tag);
     }
     if e.kind == DETACH {
-        let a = slot_calls::detach(s, slots, words, records, cache, memory, process, slot);
+        let a = slot_calls::detach(
+            s,
+            slots,
+            words,
+            records,
+            cache,
+            memory,
+            &none,
+            process,
+            slot,
+        );
         return kept(a, tag);
     }
     if e.kind == TAG {
@@ -154,6 +166,7 @@ fn change_pages(
     memory: &mut [u8],
     e: Entry,
 ) -> Answer {
+    let none: [[[u8; 4]; 4]; 0] = [];
     if e.kind == MAP {
         let frame = e.second as usize;
         let write = e.third != 0;
@@ -164,19 +177,30 @@ fn change_pages(
             records,
             cache,
             memory,
+            &none,
             e.first,
             frame,
             write,
         );
     }
     if e.kind == UNMAP {
-        return page_calls::unmap(s, slots, words, records, cache, memory, e.first);
+        return page_calls::unmap(s, slots, words, records, cache, memory, &none, e.first);
     }
     if e.kind == PROTECT {
         let write = e.second != 0;
-        return page_calls::protect(s, slots, words, records, cache, memory, e.first, write);
+        return page_calls::protect(
+            s,
+            slots,
+            words,
+            records,
+            cache,
+            memory,
+            &none,
+            e.first,
+            write,
+        );
     }
-    line_calls::flush_all(s, slots, words, records, cache, memory)
+    line_calls::flush_all(s, slots, words, records, cache, memory, &none)
 }
 
 // User access, supervisor access and load-and-map: one line is used.
@@ -190,6 +214,7 @@ fn use_line(
     tag: Pending,
     e: Entry,
 ) -> Tagged {
+    let mut none: [[[u8; 4]; 4]; 0] = [];
     if e.kind == USER_ACCESS {
         let process = e.first as usize;
         let a = access(e.second, e.third, e.fifth);
@@ -201,6 +226,7 @@ fn use_line(
             records,
             cache,
             memory,
+            &mut none,
             tag,
             process,
             a,
@@ -218,6 +244,7 @@ fn use_line(
             records,
             cache,
             memory,
+            &mut none,
             tag,
             a,
             address,
@@ -320,6 +347,7 @@ fn board_of(e: Entry) -> Board
         uncached: e.second as usize,
         processes: e.third as usize,
         lines: e.fourth as usize,
+        ways: 1,
     };
     if s.frames <= MOST_FRAMES {
         if s.lines <= MOST_LINES {
@@ -334,6 +362,7 @@ fn board_of(e: Entry) -> Board
             uncached: 0,
             processes: 0,
             lines: 0,
+            ways: 1,
         },
         true,
     )

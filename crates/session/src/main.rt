@@ -60,6 +60,7 @@ fn shape() -> Shape {
         uncached: 1,
         processes: 2,
         lines: 2,
+        ways: 1,
     }
 }
 
@@ -72,6 +73,7 @@ fn answer(
     memory: &mut [u8],
     c: Asked,
 ) -> Answer {
+    let mut none: [[[u8; 4]; 4]; 0] = [];
     match c {
         Asked::Map(write) => map_call::map(
             shape(),
@@ -80,6 +82,7 @@ fn answer(
             records,
             cache,
             memory,
+            &none,
             PAGE,
             FRAME,
             write,
@@ -91,12 +94,22 @@ fn answer(
             records,
             cache,
             memory,
+            &none,
             0,
             0,
             SEGMENT,
             true,
         ),
-        Asked::Unmap => page_calls::unmap(shape(), slots, words, records, cache, memory, PAGE),
+        Asked::Unmap => page_calls::unmap(
+            shape(),
+            slots,
+            words,
+            records,
+            cache,
+            memory,
+            &none,
+            PAGE,
+        ),
         Asked::User(process, a, address) => {
             let tag = Pending {
                 set: false,
@@ -109,6 +122,7 @@ fn answer(
                 records,
                 cache,
                 memory,
+                &mut none,
                 tag,
                 process,
                 a,

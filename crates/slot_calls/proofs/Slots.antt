@@ -17,7 +17,8 @@ use Rattle.board.specs.declared.Answer.{Answer}
 use Rattle.board.specs.declared.Pending.{Pending}
 use Rattle.board.proofs.Bools.{and-left, and-right}
 use Rattle.board.proofs.Shapes.{shaped}
-use Rattle.machine.specs.Boards.{board, outcome}
+use Rattle.lines.specs.Victims.{Uses}
+use Rattle.machine.specs.Boards.{setsBoard, outcome}
 use Rattle.machine.specs.Refusals.{byTable, isProcess, isSlot}
 use Rattle.machine.specs.Calls.{attach, detach}
 
@@ -27,14 +28,14 @@ pub ranges-by : (s : Shape) (process slot segment : ℕ) (a : Bool) → a ≡ at
 ranges-by s process slot segment a e = rw e
 
 -- the slots of a process stand inside the list
-pub process-room : (s : Shape) (slots w r c m : List ℕ) (t : Bool) → t ≡ fitsShape s (length slots) (length w) (length r) (length c) (length m) → t ≡ true
-    → (process : ℕ) (u v : Bool) → u ≡ (isProcess s process && v) → u ≡ true → slotIndex process processSlots ≤ length slots
-process-room s slots w r c m t f h process u v e k =
-    let z = shaped s (length slots) (length w) (length r) (length c) (length m) t f h .slots-are in
+pub process-room : (s : Shape) (slots w r c m : List ℕ) (uses : ℕ) (t : Bool) → t ≡ fitsShape s (length slots) (length w) (length r) (length c) (length m) uses → t ≡ true
+    → (process : ℕ) (p v : Bool) → p ≡ (isProcess s process && v) → p ≡ true → slotIndex process processSlots ≤ length slots
+process-room s slots w r c m uses t f h process p v e k =
+    let z = shaped s (length slots) (length w) (length r) (length c) (length m) uses t f h .slots-are in
     let y = ltb-true process (s .processes) (and-left (ltb process (s .processes)) v (sym e ∙ k)) in
     omega arith
 
-module _ (s : Shape) (process slot segment : ℕ) (u : Bool) (e : u ≡ (isProcess s process && (isSlot slot && attachable segment))) (k : u ≡ true) where
+module _ (s : Shape) (process slot segment : ℕ) (p : Bool) (e : p ≡ (isProcess s process && (isSlot slot && attachable segment))) (k : p ≡ true) where
   ranges : (isSlot slot && attachable segment) ≡ true
   ranges = and-right (isProcess s process) (isSlot slot && attachable segment) (sym e ∙ k)
 
@@ -46,28 +47,28 @@ module _ (s : Shape) (process slot segment : ℕ) (u : Bool) (e : u ≡ (isProce
       let z = leb-true segment lastSegment (and-right (leb firstSegment segment) _ (and-right (isSlot slot) (attachable segment) ranges)) in
       omega arith
 
-pub detach-slot-below : (s : Shape) (process slot : ℕ) (u : Bool) → u ≡ (isProcess s process && isSlot slot) → u ≡ true → slot < processSlots
-detach-slot-below s process slot u e k = ltb-true slot processSlots (and-right (isProcess s process) (isSlot slot) (sym e ∙ k))
+pub detach-slot-below : (s : Shape) (process slot : ℕ) (p : Bool) → p ≡ (isProcess s process && isSlot slot) → p ≡ true → slot < processSlots
+detach-slot-below s process slot p e k = ltb-true slot processSlots (and-right (isProcess s process) (isSlot slot) (sym e ∙ k))
 
-module _ (s : Shape) (slots w r c m : List ℕ) (tag : Pending) (t : Bool) (f : t ≡ fitsShape s (length slots) (length w) (length r) (length c) (length m))
-    (h : t ≡ true) (process slot : ℕ) (u : Bool) (a : Answer) where
-  module _ (segment : ℕ) (write : Bool) (e : u ≡ (isProcess s process && (isSlot slot && attachable segment))) where
-    pub attach-done : (slots₁ : List ℕ) → u ≡ true → slots₁ ≡ set slots (slotIndex process slot) (slotWord segment write) → a ≡ answer 0 0 0
-        → outcome a (board slots₁ w r c m tag) ≡ attach s (board slots w r c m tag) process slot segment write
+module _ (s : Shape) (slots w r c m : List ℕ) (u : Uses) (tag : Pending) (t : Bool)
+    (f : t ≡ fitsShape s (length slots) (length w) (length r) (length c) (length m) (length u)) (h : t ≡ true) (process slot : ℕ) (p : Bool) (a : Answer) where
+  module _ (segment : ℕ) (write : Bool) (e : p ≡ (isProcess s process && (isSlot slot && attachable segment))) where
+    pub attach-done : (slots₁ : List ℕ) → p ≡ true → slots₁ ≡ set slots (slotIndex process slot) (slotWord segment write) → a ≡ answer 0 0 0
+        → outcome a (setsBoard slots₁ w r c m u tag) ≡ attach s (setsBoard slots w r c m u tag) process slot segment write
     unfolding attach byTable
     attach-done slots₁ k g q = rw (← f, h, ← e, k, g, q)
 
-    pub attach-ranges : u ≡ false → a ≡ answer 2 0 0
-        → outcome a (board slots w r c m tag) ≡ attach s (board slots w r c m tag) process slot segment write
+    pub attach-ranges : p ≡ false → a ≡ answer 2 0 0
+        → outcome a (setsBoard slots w r c m u tag) ≡ attach s (setsBoard slots w r c m u tag) process slot segment write
     unfolding attach byTable
     attach-ranges k q = rw (← f, h, ← e, k, q)
 
-  module _ (e : u ≡ (isProcess s process && isSlot slot)) where
-    pub detach-done : (slots₁ : List ℕ) → u ≡ true → slots₁ ≡ set slots (slotIndex process slot) 0 → a ≡ answer 0 0 0
-        → outcome a (board slots₁ w r c m tag) ≡ detach s (board slots w r c m tag) process slot
+  module _ (e : p ≡ (isProcess s process && isSlot slot)) where
+    pub detach-done : (slots₁ : List ℕ) → p ≡ true → slots₁ ≡ set slots (slotIndex process slot) 0 → a ≡ answer 0 0 0
+        → outcome a (setsBoard slots₁ w r c m u tag) ≡ detach s (setsBoard slots w r c m u tag) process slot
     unfolding detach byTable
     detach-done slots₁ k g q = rw (← f, h, ← e, k, g, q)
 
-    pub detach-ranges : u ≡ false → a ≡ answer 2 0 0 → outcome a (board slots w r c m tag) ≡ detach s (board slots w r c m tag) process slot
+    pub detach-ranges : p ≡ false → a ≡ answer 2 0 0 → outcome a (setsBoard slots w r c m u tag) ≡ detach s (setsBoard slots w r c m u tag) process slot
     unfolding detach byTable
     detach-ranges k q = rw (← f, h, ← e, k, q)

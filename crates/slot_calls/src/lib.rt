@@ -4,7 +4,7 @@ ghost use mathlib.Core.Bool.{_&&_};
 ghost use Rattle.address.specs.Addresses.{attachable};
 ghost use Rattle.board.specs.declared.Pending.{Pending};
 ghost use Rattle.machine.specs.Refusals.{isProcess, isSlot};
-ghost use Rattle.machine.specs.Contracts.{before, after, Attach, Detach};
+ghost use Rattle.machine.specs.Contracts.{setsBefore, setsAfter, Attach, Detach};
 use board::Answer;
 use board::PROCESS_SLOTS;
 use board::Shape;
@@ -33,12 +33,13 @@ pub fn attach(
     records: &[u64],
     cache: &[u8],
     memory: &[u8],
+    uses: &[[[u8; 4]; 4]],
     process: usize,
     slot: usize,
     segment: u64,
     write: bool,
 ) -> Answer
-    ensures { λ r. ⌜ ((tag : Pending) → Attach s (before slots words records cache memory tag) process slot segment write r (after slots words records cache memory tag)) ⌝ }
+    ensures { λ r. ⌜ ((tag : Pending) → Attach s (setsBefore slots words records cache memory uses tag) process slot segment write r (setsAfter slots words records cache memory uses tag)) ⌝ }
 {
     if board::fits(
         s,
@@ -47,6 +48,7 @@ pub fn attach(
         records.len(),
         cache.len(),
         memory.len(),
+        uses.len(),
     ) {
         if attach_fits(s, process, slot, segment) {
             slots::attach_slot(slots, process, slot, segment, write);
@@ -66,10 +68,11 @@ pub fn detach(
     records: &[u64],
     cache: &[u8],
     memory: &[u8],
+    uses: &[[[u8; 4]; 4]],
     process: usize,
     slot: usize,
 ) -> Answer
-    ensures { λ r. ⌜ ((tag : Pending) → Detach s (before slots words records cache memory tag) process slot r (after slots words records cache memory tag)) ⌝ }
+    ensures { λ r. ⌜ ((tag : Pending) → Detach s (setsBefore slots words records cache memory uses tag) process slot r (setsAfter slots words records cache memory uses tag)) ⌝ }
 {
     if board::fits(
         s,
@@ -78,6 +81,7 @@ pub fn detach(
         records.len(),
         cache.len(),
         memory.len(),
+        uses.len(),
     ) {
         if detach_fits(s, process, slot) {
             slots::detach_slot(slots, process, slot);

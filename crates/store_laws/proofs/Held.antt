@@ -1,9 +1,9 @@
 -- What a record holds, and what the searches for the record of a name and of a physical line find.
 -- Stands on the record laws of `lines` and on Searches.
-use Prim.Native.Nat.{ℕ, suc, zero, _+_, _*_, _/_, _%_, _≤_, _<_}
+use Prim.Native.Nat.{ℕ, _+_, _*_, _/_, _%_, _≤_, _<_}
 use mathlib.Core.Logic.{_≢_}
-use mathlib.Core.Path.{_≡_, refl, sym, _∙_}
-use mathlib.Core.Bool.{Bool, true, false, _&&_}
+use mathlib.Core.Path.{_≡_, refl, sym}
+use mathlib.Core.Bool.{Bool, true, false}
 use mathlib.Core.List.{List}
 use native.Mathlib.Nat.{div-add-mod', mod-lt}
 use native.Mathlib.Omega.{arith}
@@ -17,130 +17,114 @@ use Rattle.board.specs.declared.Home.{Home}
 use Rattle.board.proofs.Bools.{clash, and-left, and-right}
 use Rattle.lines.specs.Records.{lineAt, putLine, noLine, newLine, permittedLine}
 use Rattle.stores.specs.Stores.{Store}
-use Rattle.lines.specs.Holds.{placeOf, holdsLine, holdsAt, holderFrom, holderOf, keepsLine, keeperFrom, keeperOf}
+use Rattle.lines.specs.Holds.{placeOf, holdsLine, holdsAt, holdsName, holderOf, keepsLine, keeperOf}
 use Rattle.lines.specs.declared.Line.{Line}
 use Rattle.lines.proofs.Records.{line-put-same, line-put-other}
 use Rattle.store_laws.proofs.Sim.{Sim}
-use Rattle.store_laws.proofs.Searches.{first, first-at, first-nothing}
+use Rattle.board.proofs.Searches.{first-at, first-nothing}
 
 -- ---- what holds a line
 
-module _ (ways : ℕ) (s : Shape) (i : ℕ) where
-  module _ (l : Line) (h : holdsLine ways s i l ≡ true) where
-    holds-place : i / ways ≡ placeOf ways s (l .name)
+module _ (s : Shape) (i : ℕ) where
+  module _ (l : Line) (h : holdsLine s i l ≡ true) where
+    holds-place : i / s .ways ≡ placeOf s (l .name)
     unfolding holdsLine
-    holds-place = eqb-true _ _ (and-left (eqb (i / ways) (placeOf ways s (l .name))) _ (and-right (l .valid) _ h))
+    holds-place = eqb-true _ _ (and-left (eqb (i / s .ways) (placeOf s (l .name))) _ (and-right (l .valid) _ h))
 
     holds-in : l .physical < pageLines * s .frames
     unfolding holdsLine
-    holds-in = ltb-true _ _ (and-right (eqb (i / ways) (placeOf ways s (l .name))) _ (and-right (l .valid) _ h))
+    holds-in = ltb-true _ _ (and-right (eqb (i / s .ways) (placeOf s (l .name))) _ (and-right (l .valid) _ h))
 
-  pub holds-none : holdsLine ways s i noLine ≡ false
+  pub holds-none : holdsLine s i noLine ≡ false
   unfolding holdsLine
   holds-none = refl
 
-  pub holds-new : (name p : ℕ) (w : Bool) → i / ways ≡ placeOf ways s name → p < pageLines * s .frames → holdsLine ways s i (newLine name p w) ≡ true
+  pub holds-new : (name p : ℕ) (w : Bool) → i / s .ways ≡ placeOf s name → p < pageLines * s .frames → holdsLine s i (newLine name p w) ≡ true
   unfolding holdsLine
   holds-new name p w a b = rw (eq-eqb _ _ a, lt-ltb _ _ b)
 
-  pub holds-permitted : (l : Line) (write : Bool) → holdsLine ways s i (permittedLine l write) ≡ holdsLine ways s i l
+  pub holds-permitted : (l : Line) (write : Bool) → holdsLine s i (permittedLine l write) ≡ holdsLine s i l
   unfolding holdsLine
   holds-permitted l write = refl
 
-module _ (ways : ℕ) (s : Shape) (r : List ℕ) (i : ℕ) where
-  pub held-place : holdsAt ways s r i ≡ true → i / ways ≡ placeOf ways s (lineAt r i .name)
+module _ (s : Shape) (r : List ℕ) (i : ℕ) where
+  pub held-place : holdsAt s r i ≡ true → i / s .ways ≡ placeOf s (lineAt r i .name)
   unfolding holdsAt
-  held-place h = holds-place ways s i (lineAt r i) h
+  held-place h = holds-place s i (lineAt r i) h
 
-  pub held-in : holdsAt ways s r i ≡ true → lineAt r i .physical < pageLines * s .frames
+  pub held-in : holdsAt s r i ≡ true → lineAt r i .physical < pageLines * s .frames
   unfolding holdsAt
-  held-in h = holds-in ways s i (lineAt r i) h
+  held-in h = holds-in s i (lineAt r i) h
 
   -- a record holds a line by what it says
-  pub held-line : (l : Line) → lineAt r i ≡ l → holdsAt ways s r i ≡ holdsLine ways s i l
+  pub held-line : (l : Line) → lineAt r i ≡ l → holdsAt s r i ≡ holdsLine s i l
   unfolding holdsAt
   held-line l e = rw e
 
-  pub held-same : (q : List ℕ) → lineAt r i ≡ lineAt q i → holdsAt ways s r i ≡ holdsAt ways s q i
+  pub held-same : (q : List ℕ) → lineAt r i ≡ lineAt q i → holdsAt s r i ≡ holdsAt s q i
   unfolding holdsAt
   held-same q e = rw e
 
-  pub held-put-same : (l : Line) → 2 * i + 2 ≤ length r → holdsAt ways s (putLine r i l) i ≡ holdsLine ways s i l
+  pub held-put-same : (l : Line) → 2 * i + 2 ≤ length r → holdsAt s (putLine r i l) i ≡ holdsLine s i l
   unfolding holdsAt
   held-put-same l h = rw (line-put-same r i l h)
 
-  pub held-put-other : (l : Line) (j : ℕ) → j ≢ i → holdsAt ways s (putLine r i l) j ≡ holdsAt ways s r j
+  pub held-put-other : (l : Line) (j : ℕ) → j ≢ i → holdsAt s (putLine r i l) j ≡ holdsAt s r j
   unfolding holdsAt
   held-put-other l j n = rw (line-put-other r i l j (λ e. n (sym e)))
 
   -- a record past the list has the words 0
-  past-none : length r ≤ 2 * i → holdsAt ways s r i ≡ false
+  past-none : length r ≤ 2 * i → holdsAt s r i ≡ false
   unfolding holdsAt holdsLine lineAt
   past-none h =
       let z : getD r (2 * i + 1) 0 ≡ 0 = List·getD-eq-default r 0 (omega arith) in
       rw z
 
   -- a held record is one of the list
-  pub held-listed : (n : ℕ) → length r ≡ 2 * n → holdsAt ways s r i ≡ true → i < n
+  pub held-listed : (n : ℕ) → length r ≡ 2 * n → holdsAt s r i ≡ true → i < n
   held-listed n e h = go (ltb i n) refl
     where
       go : (t : Bool) → ltb i n ≡ t → i < n
       go true t = ltb-true _ _ t
       go false t = let d = ltb-false i n t in clash _ h (past-none (omega arith))
 
-pub held-below : {ways : ℕ} {s : Shape} {home : ℕ → Home} {x : Store} {m : List ℕ} → Sim ways s home x m → (i : ℕ)
-    → holdsAt ways s (x .records) i ≡ true → i < s .lines
-held-below {ways} {s} {x = x} sim i h = held-listed ways s (x .records) i (s .lines) (sim .record-count) h
+pub held-below : {s : Shape} {home : ℕ → Home} {x : Store} {m : List ℕ} → Sim s home x m → (i : ℕ)
+    → holdsAt s (x .records) i ≡ true → i < s .lines
+held-below {s} {x = x} sim i h = held-listed s (x .records) i (s .lines) (sim .record-count) h
 
 -- ---- the search for a name
 
-module _ (ways : ℕ) (s : Shape) (r : List ℕ) (name : ℕ) where
-  abbrev holdsName : ℕ → Bool
-  holdsName i = eqb (lineAt r i .name) name && holdsAt ways s r i
-
-  holder-first : (i n : ℕ) → holderFrom ways s r name i n ≡ first holdsName i n
-  unfolding holderFrom first
-  holder-first i zero = refl
-  holder-first i (suc n) = rw (holder-first (suc i) n)
-
+module _ (s : Shape) (r : List ℕ) (name : ℕ) where
   -- what the search finds holds the name
-  pub holder-some : (j : ℕ) → holderOf ways s r name ≡ At j → (holdsAt ways s r j ≡ true) × (lineAt r j .name ≡ name)
-  unfolding holderOf
+  pub holder-some : (j : ℕ) → holderOf s r name ≡ At j → (holdsAt s r j ≡ true) × (lineAt r j .name ≡ name)
+  unfolding holderOf holdsName
   holder-some j h =
-      let t = first-at holdsName (placeOf ways s name * ways) ways j (sym (holder-first _ _) ∙ h) .passes in
+      let t = first-at (holdsName s r name) (placeOf s name * s .ways) (s .ways) j h .passes in
       (and-right (eqb (lineAt r j .name) name) _ t, eqb-true _ _ (and-left (eqb (lineAt r j .name) name) _ t))
 
   -- where it finds nothing, no record holds the name
-  pub holder-nothing : (j : ℕ) → 0 < ways → holderOf ways s r name ≡ Nothing → holdsAt ways s r j ≡ true → lineAt r j .name ≢ name
-  unfolding holderOf
+  pub holder-nothing : (j : ℕ) → 0 < s .ways → holderOf s r name ≡ Nothing → holdsAt s r j ≡ true → lineAt r j .name ≢ name
+  unfolding holderOf holdsName
   holder-nothing j w h d z =
-      let a = held-place ways s r j d in
-      let b = div-add-mod' j ways in
+      let a = held-place s r j d in
+      let b = div-add-mod' j (s .ways) in
       let e = mod-lt j w in
-      let q : j / ways ≡ name % (s .lines / ways) = cc in
+      let q : j / s .ways ≡ name % (s .lines / s .ways) = cc in
       let b′ = rw q at b in
-      let t = first-nothing holdsName (name % (s .lines / ways) * ways) ways j (sym (holder-first _ _) ∙ h) (omega arith) (omega arith) in
-      clash (holdsName j) (rw (d, eq-eqb _ _ z)) t
+      let t = first-nothing (holdsName s r name) (name % (s .lines / s .ways) * s .ways) (s .ways) j h (omega arith) (omega arith) in
+      clash (holdsName s r name j) (rw (d, eq-eqb _ _ z)) t
 
 -- ---- the search for a physical line
 
-module _ (ways : ℕ) (s : Shape) (r : List ℕ) (p : ℕ) where
-  abbrev keeps : ℕ → Bool
-  keeps i = holdsAt ways s r i && eqb (lineAt r i .physical) p
-
-  keeper-first : (i n : ℕ) → keeperFrom ways s r p i n ≡ first keeps i n
-  unfolding keeperFrom keepsLine first
-  keeper-first i zero = refl
-  keeper-first i (suc n) = rw (keeper-first (suc i) n)
-
-  pub keeper-some : (j : ℕ) → keeperOf ways s r p ≡ At j → (holdsAt ways s r j ≡ true) × (lineAt r j .physical ≡ p)
-  unfolding keeperOf
+module _ (s : Shape) (r : List ℕ) (p : ℕ) where
+  pub keeper-some : (j : ℕ) → keeperOf s r p ≡ At j → (holdsAt s r j ≡ true) × (lineAt r j .physical ≡ p)
+  unfolding keeperOf keepsLine
   keeper-some j h =
-      let t = first-at keeps 0 (s .lines) j (sym (keeper-first _ _) ∙ h) .passes in
-      (and-left (holdsAt ways s r j) _ t, eqb-true _ _ (and-right (holdsAt ways s r j) _ t))
+      let t = first-at (keepsLine s r p) 0 (s .lines) j h .passes in
+      (and-left (holdsAt s r j) _ t, eqb-true _ _ (and-right (holdsAt s r j) _ t))
 
-  pub keeper-nothing : (j : ℕ) → keeperOf ways s r p ≡ Nothing → j < s .lines → holdsAt ways s r j ≡ true → lineAt r j .physical ≢ p
-  unfolding keeperOf
+  pub keeper-nothing : (j : ℕ) → keeperOf s r p ≡ Nothing → j < s .lines → holdsAt s r j ≡ true → lineAt r j .physical ≢ p
+  unfolding keeperOf keepsLine
   keeper-nothing j h b d z =
-      let t = first-nothing keeps 0 (s .lines) j (sym (keeper-first _ _) ∙ h) (omega arith) (omega arith) in
-      clash (keeps j) (rw (d, eq-eqb _ _ z)) t
+      let t = first-nothing (keepsLine s r p) 0 (s .lines) j h (omega arith) (omega arith) in
+      clash (keepsLine s r p j) (rw (d, eq-eqb _ _ z)) t

@@ -2,7 +2,6 @@
 pub mod Sim
 pub mod Bytes
 pub mod Zeroed
-pub mod Searches
 pub mod Held
 pub mod Steps
 pub mod Sweeps

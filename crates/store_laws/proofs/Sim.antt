@@ -23,23 +23,23 @@ pub record Homes (s : Shape) (home : ℕ → Home) : Type 0 where
   pub inside : (n p : ℕ) (w : Bool) → home n ≡ Line p w → p < pageLines * s .frames
 
 -- the store x stands for the flat memory m
-pub record Sim (ways : ℕ) (s : Shape) (home : ℕ → Home) (x : Store) (m : List ℕ) : Type 0 where
-  pub ways-pos : 0 < ways
-  pub sets-pos : 0 < s .lines / ways
+pub record Sim (s : Shape) (home : ℕ → Home) (x : Store) (m : List ℕ) : Type 0 where
+  pub ways-pos : 0 < s .ways
+  pub sets-pos : 0 < s .lines / s .ways
   pub record-count : length (x .records) ≡ 2 * s .lines
   pub cache-count : length (x .cache) ≡ 16 * s .lines
   pub memory-count : length (x .memory) ≡ 4096 * s .frames
   pub flat-count : length m ≡ 4096 * s .frames
   -- no physical line is held twice
-  pub once : (i j : ℕ) → holdsAt ways s (x .records) i ≡ true → holdsAt ways s (x .records) j ≡ true
+  pub once : (i j : ℕ) → holdsAt s (x .records) i ≡ true → holdsAt s (x .records) j ≡ true
       → lineAt (x .records) i .physical ≡ lineAt (x .records) j .physical → i ≡ j
   -- a held line is at its name's home, with that permission
-  pub maps : (i : ℕ) → holdsAt ways s (x .records) i ≡ true
+  pub maps : (i : ℕ) → holdsAt s (x .records) i ≡ true
       → home (lineAt (x .records) i .name) ≡ Line (lineAt (x .records) i .physical) (lineAt (x .records) i .write)
   -- an unchanged line equals memory
-  pub clean : (i k : ℕ) → holdsAt ways s (x .records) i ≡ true → lineAt (x .records) i .changed ≡ false → k < 16
+  pub clean : (i k : ℕ) → holdsAt s (x .records) i ≡ true → lineAt (x .records) i .changed ≡ false → k < 16
       → byte (x .cache) i k ≡ byte (x .memory) (lineAt (x .records) i .physical) k
   -- the flat memory: a held line's bytes are the cache's, the others memory's
-  pub cached : (i k : ℕ) → holdsAt ways s (x .records) i ≡ true → k < 16 → byte m (lineAt (x .records) i .physical) k ≡ byte (x .cache) i k
-  pub bare : (p k : ℕ) → ((i : ℕ) → holdsAt ways s (x .records) i ≡ true → lineAt (x .records) i .physical ≡ p → ⊥) → p < pageLines * s .frames → k < 16
+  pub cached : (i k : ℕ) → holdsAt s (x .records) i ≡ true → k < 16 → byte m (lineAt (x .records) i .physical) k ≡ byte (x .cache) i k
+  pub bare : (p k : ℕ) → ((i : ℕ) → holdsAt s (x .records) i ≡ true → lineAt (x .records) i .physical ≡ p → ⊥) → p < pageLines * s .frames → k < 16
       → byte m p k ≡ byte (x .memory) p k

@@ -36,8 +36,8 @@ fateOf Retire l = noLine
 fateOf (Permit write) l = permittedLine l write
 
 -- record j, which was l
-unfoldable pub fate : ℕ → Shape → Visit → ℕ → Line → Line
-fate ways s v j l = cond (holdsLine ways s j l && selects v l) (fateOf (v .deed) l) l
+unfoldable pub fate : Shape → Visit → ℕ → Line → Line
+fate s v j l = cond (holdsLine s j l && selects v l) (fateOf (v .deed) l) l
 
 -- y is x with l as record i, the same cache bytes and as much memory
 record Step (i : ℕ) (l : Line) (x y : Store) : Type 0 where
@@ -51,39 +51,39 @@ pub record SameCache (x y : Store) : Type 0 where
   pub cache-same : y .cache ≡ x .cache
   pub memory-length : length (y .memory) ≡ length (x .memory)
 
-module _ (ways : ℕ) (s : Shape) where
-  written-retired : (i : ℕ) (x : Store) → Step i noLine x (dropped i (writtenBack ways s i x))
+module _ (s : Shape) where
+  written-retired : (i : ℕ) (x : Store) → Step i noLine x (dropped i (writtenBack s i x))
   unfolding dropped noted
-  written-retired i x = record { records-are = evict-records ways s i x; cache-same = written-cache ways s i x; memory-length = length-written ways s i x }
+  written-retired i x = record { records-are = evict-records s i x; cache-same = written-cache s i x; memory-length = length-written s i x }
 
-  treated-step : (d : Deed) (i : ℕ) (x : Store) → Step i (fateOf d (lineAt (x .records) i)) x (treated ways s d i x)
+  treated-step : (d : Deed) (i : ℕ) (x : Store) → Step i (fateOf d (lineAt (x .records) i)) x (treated s d i x)
   unfolding treated dropped noted fateOf
   treated-step Drop i x = record { records-are = refl; cache-same = refl; memory-length = refl }
   treated-step Retire i x = written-retired i x
   treated-step (Permit write) i x = record { records-are = refl; cache-same = refl; memory-length = refl }
 
   module _ (v : Visit) where
-    visited-here : (i : ℕ) (x : Store) → 2 * i + 2 ≤ length (x .records) → lineAt (visited ways s v i x .records) i ≡ fate ways s v i (lineAt (x .records) i)
+    visited-here : (i : ℕ) (x : Store) → 2 * i + 2 ≤ length (x .records) → lineAt (visited s v i x .records) i ≡ fate s v i (lineAt (x .records) i)
     unfolding visited fate holdsAt
-    visited-here i x b = go (holdsLine ways s i (lineAt (x .records) i) && selects v (lineAt (x .records) i))
+    visited-here i x b = go (holdsLine s i (lineAt (x .records) i) && selects v (lineAt (x .records) i))
       where
-        go : (t : Bool) → lineAt (cond t (treated ways s (v .deed) i x) x .records) i ≡ cond t (fateOf (v .deed) (lineAt (x .records) i)) (lineAt (x .records) i)
+        go : (t : Bool) → lineAt (cond t (treated s (v .deed) i x) x .records) i ≡ cond t (fateOf (v .deed) (lineAt (x .records) i)) (lineAt (x .records) i)
         go true = rw (treated-step (v .deed) i x .records-are) (line-put-same (x .records) i (fateOf (v .deed) (lineAt (x .records) i)) b)
         go false = refl
 
-    visited-other : (i j : ℕ) (x : Store) → i ≢ j → lineAt (visited ways s v i x .records) j ≡ lineAt (x .records) j
+    visited-other : (i j : ℕ) (x : Store) → i ≢ j → lineAt (visited s v i x .records) j ≡ lineAt (x .records) j
     unfolding visited
-    visited-other i j x n = go (holdsAt ways s (x .records) i && selects v (lineAt (x .records) i))
+    visited-other i j x n = go (holdsAt s (x .records) i && selects v (lineAt (x .records) i))
       where
-        go : (t : Bool) → lineAt (cond t (treated ways s (v .deed) i x) x .records) j ≡ lineAt (x .records) j
+        go : (t : Bool) → lineAt (cond t (treated s (v .deed) i x) x .records) j ≡ lineAt (x .records) j
         go true = rw (treated-step (v .deed) i x .records-are) (line-put-other (x .records) i (fateOf (v .deed) (lineAt (x .records) i)) j n)
         go false = refl
 
-    visited-cache : (i : ℕ) (x : Store) → SameCache x (visited ways s v i x)
+    visited-cache : (i : ℕ) (x : Store) → SameCache x (visited s v i x)
     unfolding visited
-    visited-cache i x = go (holdsAt ways s (x .records) i && selects v (lineAt (x .records) i))
+    visited-cache i x = go (holdsAt s (x .records) i && selects v (lineAt (x .records) i))
       where
-        go : (t : Bool) → SameCache x (cond t (treated ways s (v .deed) i x) x)
+        go : (t : Bool) → SameCache x (cond t (treated s (v .deed) i x) x)
         go true =
             let r = treated-step (v .deed) i x in
             record {
@@ -101,36 +101,36 @@ unfolding sweep
 sweep-keeps f P h zero i x p = p
 sweep-keeps f P h (suc n) i x p = sweep-keeps f P h n (suc i) (f i x) (h i x p)
 
-module _ (ways : ℕ) (s : Shape) (v : Visit) where
-  sweep-below : (n i j : ℕ) (x : Store) → j < i → lineAt (sweep (visited ways s v) n i x .records) j ≡ lineAt (x .records) j
+module _ (s : Shape) (v : Visit) where
+  sweep-below : (n i j : ℕ) (x : Store) → j < i → lineAt (sweep (visited s v) n i x .records) j ≡ lineAt (x .records) j
   unfolding sweep
   sweep-below zero i j x h = refl
-  sweep-below (suc n) i j x h = sweep-below n (suc i) j (visited ways s v i x) (omega arith) ∙ visited-other ways s v i j x (omega arith)
+  sweep-below (suc n) i j x h = sweep-below n (suc i) j (visited s v i x) (omega arith) ∙ visited-other s v i j x (omega arith)
 
   sweep-line : (n i j : ℕ) (x : Store) → i ≤ j → j < i + n → 2 * (i + n) ≤ length (x .records)
-      → lineAt (sweep (visited ways s v) n i x .records) j ≡ fate ways s v j (lineAt (x .records) j)
+      → lineAt (sweep (visited s v) n i x .records) j ≡ fate s v j (lineAt (x .records) j)
   unfolding sweep
   sweep-line zero i j x a b l = absurd (omega arith)
-  sweep-line (suc n) i j x a b l = go (eqb i j) refl (sweep-line n (suc i) j (visited ways s v i x))
+  sweep-line (suc n) i j x a b l = go (eqb i j) refl (sweep-line n (suc i) j (visited s v i x))
     where
       go : (t : Bool) → eqb i j ≡ t
-          → (suc i ≤ j → j < suc i + n → 2 * (suc i + n) ≤ length (visited ways s v i x .records)
-          → lineAt (sweep (visited ways s v) n (suc i) (visited ways s v i x) .records) j ≡ fate ways s v j (lineAt (visited ways s v i x .records) j))
-          → lineAt (sweep (visited ways s v) n (suc i) (visited ways s v i x) .records) j ≡ fate ways s v j (lineAt (x .records) j)
+          → (suc i ≤ j → j < suc i + n → 2 * (suc i + n) ≤ length (visited s v i x .records)
+          → lineAt (sweep (visited s v) n (suc i) (visited s v i x) .records) j ≡ fate s v j (lineAt (visited s v i x .records) j))
+          → lineAt (sweep (visited s v) n (suc i) (visited s v i x) .records) j ≡ fate s v j (lineAt (x .records) j)
       go true t later =
           let q : i ≡ j = eqb-true i j t in
-          sweep-below n (suc i) j (visited ways s v i x) (omega arith) ∙ rw (← q) (visited-here ways s v i x (omega arith))
+          sweep-below n (suc i) j (visited s v i x) (omega arith) ∙ rw (← q) (visited-here s v i x (omega arith))
       go false t later =
           let q = eqb-false i j t in
-          later (omega arith) (omega arith) (omega (arith, visited-cache ways s v i x .records-length))
-          ∙ rw (visited-other ways s v i j x q)
+          later (omega arith) (omega arith) (omega (arith, visited-cache s v i x .records-length))
+          ∙ rw (visited-other s v i j x q)
 
   module _ (x : Store) where
-    pub swept-cache : SameCache x (visitedAll ways s v x)
+    pub swept-cache : SameCache x (visitedAll s v x)
     unfolding visitedAll
     swept-cache =
-        sweep-keeps (visited ways s v) (λ (y : Store). SameCache x y)
-        (λ i y a. let b = visited-cache ways s v i y in
+        sweep-keeps (visited s v) (λ (y : Store). SameCache x y)
+        (λ i y a. let b = visited-cache s v i y in
         record {
           records-length = b .records-length ∙ a .records-length;
           cache-same = b .cache-same ∙ a .cache-same;
@@ -139,62 +139,62 @@ module _ (ways : ℕ) (s : Shape) (v : Visit) where
         (s .lines) 0 x (record { records-length = refl; cache-same = refl; memory-length = refl })
 
     pub swept-line : (j : ℕ) → length (x .records) ≡ 2 * s .lines → j < s .lines
-        → lineAt (visitedAll ways s v x .records) j ≡ fate ways s v j (lineAt (x .records) j)
+        → lineAt (visitedAll s v x .records) j ≡ fate s v j (lineAt (x .records) j)
     unfolding visitedAll
     swept-line j z h = sweep-line (s .lines) 0 j x (omega arith) (omega arith) (omega arith)
 
     -- a visit that never writes back
-    swept-memory : ((i : ℕ) (y : Store) → treated ways s (v .deed) i y .memory ≡ y .memory) → visitedAll ways s v x .memory ≡ x .memory
+    swept-memory : ((i : ℕ) (y : Store) → treated s (v .deed) i y .memory ≡ y .memory) → visitedAll s v x .memory ≡ x .memory
     unfolding visitedAll visited
     swept-memory keeps =
-        sweep-keeps (visited ways s v) (λ (y : Store). y .memory ≡ x .memory)
-        (λ i y a. one i y (holdsAt ways s (y .records) i && selects v (lineAt (y .records) i)) ∙ a)
+        sweep-keeps (visited s v) (λ (y : Store). y .memory ≡ x .memory)
+        (λ i y a. one i y (holdsAt s (y .records) i && selects v (lineAt (y .records) i)) ∙ a)
         (s .lines) 0 x refl
       where
-        one : (i : ℕ) (y : Store) (t : Bool) → cond t (treated ways s (v .deed) i y) y .memory ≡ y .memory
+        one : (i : ℕ) (y : Store) (t : Bool) → cond t (treated s (v .deed) i y) y .memory ≡ y .memory
         one i y true = keeps i y
         one i y false = refl
 
-module _ (ways : ℕ) (s : Shape) (x : Store) (names : Names) where
-  pub swept-memory-drop : visitedAll ways s (visit Drop names) x .memory ≡ x .memory
+module _ (s : Shape) (x : Store) (names : Names) where
+  pub swept-memory-drop : visitedAll s (visit Drop names) x .memory ≡ x .memory
   unfolding treated dropped noted
-  swept-memory-drop = swept-memory ways s (visit Drop names) x (λ i y. refl)
+  swept-memory-drop = swept-memory s (visit Drop names) x (λ i y. refl)
 
-  pub swept-memory-permit : (write : Bool) → visitedAll ways s (visit (Permit write) names) x .memory ≡ x .memory
+  pub swept-memory-permit : (write : Bool) → visitedAll s (visit (Permit write) names) x .memory ≡ x .memory
   unfolding treated noted
-  swept-memory-permit write = swept-memory ways s (visit (Permit write) names) x (λ i y. refl)
+  swept-memory-permit write = swept-memory s (visit (Permit write) names) x (λ i y. refl)
 
 -- ---- lines kept, dropped or relabelled, with the map and the bytes of memory changed around them
 
 -- record j of y holds a line that x held there, with the same physical line and mark, at its home in the new map
-pub record Kept (ways : ℕ) (s : Shape) (home′ : ℕ → Home) (x y : Store) (j : ℕ) : Type 0 where
-  pub was : holdsAt ways s (x .records) j ≡ true
+pub record Kept (s : Shape) (home′ : ℕ → Home) (x y : Store) (j : ℕ) : Type 0 where
+  pub was : holdsAt s (x .records) j ≡ true
   pub physical-is : lineAt (y .records) j .physical ≡ lineAt (x .records) j .physical
   pub changed-is : lineAt (y .records) j .changed ≡ lineAt (x .records) j .changed
   pub maps : home′ (lineAt (y .records) j .name) ≡ HomeLine (lineAt (y .records) j .physical) (lineAt (y .records) j .write)
 
-module _ (ways : ℕ) (s : Shape) (home home′ : ℕ → Home) (x y : Store) (m m′ : List ℕ) (sim : Sim ways s home x m)
+module _ (s : Shape) (home home′ : ℕ → Home) (x y : Store) (m m′ : List ℕ) (sim : Sim s home x m)
     (alike : SameCache x y) (flat-length : length m′ ≡ length m)
-    (kept : (j : ℕ) → holdsAt ways s (y .records) j ≡ true → Kept ways s home′ x y j)
-    (in-memory : (j k : ℕ) → holdsAt ways s (y .records) j ≡ true → k < 16
+    (kept : (j : ℕ) → holdsAt s (y .records) j ≡ true → Kept s home′ x y j)
+    (in-memory : (j k : ℕ) → holdsAt s (y .records) j ≡ true → k < 16
     → byte (y .memory) (lineAt (y .records) j .physical) k ≡ byte (x .memory) (lineAt (y .records) j .physical) k)
-    (in-flat : (j k : ℕ) → holdsAt ways s (y .records) j ≡ true → k < 16
+    (in-flat : (j k : ℕ) → holdsAt s (y .records) j ≡ true → k < 16
     → byte m′ (lineAt (y .records) j .physical) k ≡ byte m (lineAt (y .records) j .physical) k)
-    (bare : (p k : ℕ) → ((j : ℕ) → holdsAt ways s (y .records) j ≡ true → lineAt (y .records) j .physical ≡ p → ⊥) → p < pageLines * s .frames → k < 16
+    (bare : (p k : ℕ) → ((j : ℕ) → holdsAt s (y .records) j ≡ true → lineAt (y .records) j .physical ≡ p → ⊥) → p < pageLines * s .frames → k < 16
     → byte m′ p k ≡ byte (y .memory) p k) where
-  clean : (j k : ℕ) → holdsAt ways s (y .records) j ≡ true → lineAt (y .records) j .changed ≡ false → k < 16
+  clean : (j k : ℕ) → holdsAt s (y .records) j ≡ true → lineAt (y .records) j .changed ≡ false → k < 16
       → byte (y .cache) j k ≡ byte (y .memory) (lineAt (y .records) j .physical) k
   clean j k a d b =
       let f = kept j a in
       let z = sim .clean j k (f .was) (sym (f .changed-is) ∙ d) b in
       rw (alike .cache-same) (z ∙ rw (← f .physical-is) (sym (in-memory j k a b)))
 
-  cached : (j k : ℕ) → holdsAt ways s (y .records) j ≡ true → k < 16 → byte m′ (lineAt (y .records) j .physical) k ≡ byte (y .cache) j k
+  cached : (j k : ℕ) → holdsAt s (y .records) j ≡ true → k < 16 → byte m′ (lineAt (y .records) j .physical) k ≡ byte (y .cache) j k
   cached j k a b =
       let f = kept j a in
       rw (alike .cache-same) (in-flat j k a b ∙ rw (f .physical-is) (sim .cached j k (f .was) b))
 
-  pub kept-sim : Sim ways s home′ y m′
+  pub kept-sim : Sim s home′ y m′
   kept-sim = record {
     ways-pos = sim .ways-pos;
     sets-pos = sim .sets-pos;
@@ -212,16 +212,16 @@ module _ (ways : ℕ) (s : Shape) (home home′ : ℕ → Home) (x y : Store) (m
 -- ---- lines written back and dropped
 
 -- a visit that writes back and drops, to every record it is for
-module _ (ways : ℕ) (s : Shape) (home : ℕ → Home) (m : List ℕ) where
-  pub sim-retired : (names : Names) (x : Store) → Sim ways s home x m → Sim ways s home (visitedAll ways s (visit Retire names) x) m
+module _ (s : Shape) (home : ℕ → Home) (m : List ℕ) where
+  pub sim-retired : (names : Names) (x : Store) → Sim s home x m → Sim s home (visitedAll s (visit Retire names) x) m
   unfolding visitedAll visited treated
   sim-retired names x sim =
-      sweep-keeps (visited ways s (visit Retire names)) (λ (y : Store). Sim ways s home y m)
-      (λ i y a. one i y a (holdsAt ways s (y .records) i) (named names (lineAt (y .records) i .name)) refl)
+      sweep-keeps (visited s (visit Retire names)) (λ (y : Store). Sim s home y m)
+      (λ i y a. one i y a (holdsAt s (y .records) i) (named names (lineAt (y .records) i .name)) refl)
       (s .lines) 0 x sim
     where
-      one : (i : ℕ) (y : Store) → Sim ways s home y m → (t u : Bool) → holdsAt ways s (y .records) i ≡ t
-          → Sim ways s home (cond (t && u) (dropped i (writtenBack ways s i y)) y) m
+      one : (i : ℕ) (y : Store) → Sim s home y m → (t u : Bool) → holdsAt s (y .records) i ≡ t
+          → Sim s home (cond (t && u) (dropped i (writtenBack s i y)) y) m
       one i y a true true h = sim-evict a i h
       one i y a true false h = a
       one i y a false u h = a

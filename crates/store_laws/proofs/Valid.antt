@@ -25,9 +25,9 @@ use Rattle.store_laws.proofs.Held.{holds-new, holds-permitted, held-lin
 use Rattle.store_laws.proofs.Steps.{written-records, evict-records}
 use Rattle.store_laws.proofs.Sweeps.{sweep-keeps}
 
-module _ (ways : ℕ) (s : Shape) where
+module _ (s : Shape) where
   abbrev pub AllHold : List ℕ → Type 0
-  AllHold r = (i : ℕ) → lineAt r i .valid ≡ true → holdsAt ways s r i ≡ true
+  AllHold r = (i : ℕ) → lineAt r i .valid ≡ true → holdsAt s r i ≡ true
 
   -- a record past the list is not valid
   past-not-valid : (r : List ℕ) (i : ℕ) → length r < 2 * i + 2 → lineAt r i .valid ≡ false
@@ -35,14 +35,14 @@ module _ (ways : ℕ) (s : Shape) where
   past-not-valid r i h = let z : getD r (2 * i + 1) 0 ≡ 0 = List·getD-eq-default r 0 (omega arith) in rw z
 
   -- a record put, which holds a line if it is valid
-  valid-put : (r : List ℕ) (i : ℕ) (l : Line) → (l .valid ≡ true → holdsLine ways s i l ≡ true) → AllHold r → AllHold (putLine r i l)
+  valid-put : (r : List ℕ) (i : ℕ) (l : Line) → (l .valid ≡ true → holdsLine s i l ≡ true) → AllHold r → AllHold (putLine r i l)
   valid-put r i l own all j v = go (eqb j i) (leb (2 * i + 2) (length r)) refl refl
     where
-      go : (t u : Bool) → eqb j i ≡ t → leb (2 * i + 2) (length r) ≡ u → holdsAt ways s (putLine r i l) j ≡ true
+      go : (t u : Bool) → eqb j i ≡ t → leb (2 * i + 2) (length r) ≡ u → holdsAt s (putLine r i l) j ≡ true
       go true true t u =
           let q : j ≡ i = eqb-true j i t in
           let e = line-put-same r i l (leb-true _ _ u) in
-          rw (q, held-line ways s (putLine r i l) i l e) (own (rw (q, e) at v))
+          rw (q, held-line s (putLine r i l) i l e) (own (rw (q, e) at v))
       go true false t u =
           let q : j ≡ i = eqb-true j i t in
           let n = length-put r i l in
@@ -50,7 +50,7 @@ module _ (ways : ℕ) (s : Shape) where
           clash _ (rw q at v) (past-not-valid (putLine r i l) i (omega arith))
       go false u t w =
           let e = line-put-other r i l j (λ e. eqb-false j i t (sym e)) in
-          rw (held-same ways s (putLine r i l) j r e) (all j (rw e at v))
+          rw (held-same s (putLine r i l) j r e) (all j (rw e at v))
 
   -- a line dropped, given another permission, or marked changed
   valid-dropped : (r : List ℕ) (i : ℕ) → AllHold r → AllHold (putLine r i noLine)
@@ -58,18 +58,18 @@ module _ (ways : ℕ) (s : Shape) where
 
   valid-permitted : (r : List ℕ) (i : ℕ) (write : Bool) → AllHold r → AllHold (putLine r i (permittedLine (lineAt r i) write))
   unfolding holdsAt
-  valid-permitted r i write all = valid-put r i (permittedLine (lineAt r i) write) (λ v. holds-permitted ways s i (lineAt r i) write ∙ all i v) all
+  valid-permitted r i write all = valid-put r i (permittedLine (lineAt r i) write) (λ v. holds-permitted s i (lineAt r i) write ∙ all i v) all
 
   valid-changed : (r : List ℕ) (i : ℕ) → AllHold r → AllHold (putLine r i (changedLine (lineAt r i)))
   unfolding holdsAt holdsLine
   valid-changed r i all = valid-put r i (changedLine (lineAt r i)) (all i) all
 
   -- a miss: at the name's place, from a physical line inside memory
-  pub valid-inserted : (i name p : ℕ) (w : Bool) (x : Store) → i / ways ≡ placeOf ways s name → p < pageLines * s .frames → AllHold (x .records)
-      → AllHold (inserted ways s i name p w x .records)
+  pub valid-inserted : (i name p : ℕ) (w : Bool) (x : Store) → i / s .ways ≡ placeOf s name → p < pageLines * s .frames → AllHold (x .records)
+      → AllHold (inserted s i name p w x .records)
   unfolding inserted noted filled
   valid-inserted i name p w x stands inside all =
-      rw (written-records ways s i x) (valid-put (x .records) i (newLine name p w) (λ v. holds-new ways s i name p w stands inside) all)
+      rw (written-records s i x) (valid-put (x .records) i (newLine name p w) (λ v. holds-new s i name p w stands inside) all)
 
   -- a load or a store
   pub valid-performed : (i offset : ℕ) (a : Access) (r cache : List ℕ) → AllHold r → AllHold (performedAt i offset a r cache .records)
@@ -77,15 +77,15 @@ module _ (ways : ℕ) (s : Shape) where
   valid-performed i offset a r cache all = cond-both (λ (p : Performed). AllHold (p .records)) (a .store) _ _ (valid-changed r i all) all
 
   -- every record visited
-  valid-treated : (d : Deed) (i : ℕ) (x : Store) → AllHold (x .records) → AllHold (treated ways s d i x .records)
+  valid-treated : (d : Deed) (i : ℕ) (x : Store) → AllHold (x .records) → AllHold (treated s d i x .records)
   unfolding treated dropped noted
   valid-treated Drop i x all = valid-dropped (x .records) i all
-  valid-treated Retire i x all = rw (evict-records ways s i x) (valid-dropped (x .records) i all)
+  valid-treated Retire i x all = rw (evict-records s i x) (valid-dropped (x .records) i all)
   valid-treated (Permit write) i x all = valid-permitted (x .records) i write all
 
-  pub valid-visited : (v : Visit) (x : Store) → AllHold (x .records) → AllHold (visitedAll ways s v x .records)
+  pub valid-visited : (v : Visit) (x : Store) → AllHold (x .records) → AllHold (visitedAll s v x .records)
   unfolding visitedAll visited
   valid-visited v x all =
-      sweep-keeps (visited ways s v) (λ (y : Store). AllHold (y .records))
-      (λ i y h. cond-both (λ (z : Store). AllHold (z .records)) (holdsAt ways s (y .records) i && selects v (lineAt (y .records) i)) _ _ (valid-treated (v .deed) i y h) h)
+      sweep-keeps (visited s v) (λ (y : Store). AllHold (y .records))
+      (λ i y h. cond-both (λ (z : Store). AllHold (z .records)) (holdsAt s (y .records) i && selects v (lineAt (y .records) i)) _ _ (valid-treated (v .deed) i y h) h)
       (s .lines) 0 x all

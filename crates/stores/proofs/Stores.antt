@@ -1,4 +1,4 @@
--- The store's steps as the code takes them, one line in a set.
+-- The store's steps as the code takes them.
 use Prim.Native.Nat.{ℕ, _+_, _*_, _-_}
 use mathlib.Core.Path.{_≡_, _∙_}
 use mathlib.Core.Bool.{Bool, true, false}
@@ -16,43 +16,41 @@ use Rattle.stores.specs.declared.Access.{Access}
 pub sized-kept : (s : Shape) (r c m r₁ c₁ m₁ : List ℕ) → Sized s r c m → length r₁ ≡ length r → length c₁ ≡ length c
     → length m₁ ≡ length m → Sized s r₁ c₁ m₁
 sized-kept s r c m r₁ c₁ m₁ z x y w = record {
-  one = z .one;
-  lines-max = z .lines-max;
-  frames-max = z .frames-max;
+  lined = z .lined;
   records-are = x ∙ z .records-are;
   cache-is = y ∙ z .cache-is;
   memory-is = w ∙ z .memory-is;
 }
 
 -- the write-back of a line, and whether there was one
-module _ (s : Shape) (r c m : List ℕ) (i : ℕ) (l : Line) (t : Bool) (e : l ≡ lineAt r i) (h : t ≡ holdsLine 1 s i l) where
-  pub written-not : t ≡ false → store r c m ≡ writtenBack 1 s i (store r c m)
+module _ (s : Shape) (r c m : List ℕ) (i : ℕ) (l : Line) (t : Bool) (e : l ≡ lineAt r i) (h : t ≡ holdsLine s i l) where
+  pub written-not : t ≡ false → store r c m ≡ writtenBack s i (store r c m)
   unfolding writtenBack holdsAt
   written-not f = rw (← e, ← h, f)
 
-  pub written-clean : t ≡ true → l .changed ≡ false → store r c m ≡ writtenBack 1 s i (store r c m)
+  pub written-clean : t ≡ true → l .changed ≡ false → store r c m ≡ writtenBack s i (store r c m)
   unfolding writtenBack holdsAt
   written-clean f g = rw (← e, ← h, f, g)
 
-  pub written-now : (m₁ : List ℕ) → t ≡ true → l .changed ≡ true → m₁ ≡ withLine m (l .physical) (lineOf c i) → store r c m₁ ≡ writtenBack 1 s i (store r c m)
+  pub written-now : (m₁ : List ℕ) → t ≡ true → l .changed ≡ true → m₁ ≡ withLine m (l .physical) (lineOf c i) → store r c m₁ ≡ writtenBack s i (store r c m)
   unfolding writtenBack holdsAt
   written-now m₁ f g k = rw (k, ← e, ← h, f, g)
 
-  pub writes-not : t ≡ false → false ≡ mustWriteBack 1 s r i
+  pub writes-not : t ≡ false → false ≡ mustWriteBack s r i
   unfolding holdsAt
   writes-not f = rw (← e, ← h, f)
 
-  pub writes-clean : t ≡ true → l .changed ≡ false → false ≡ mustWriteBack 1 s r i
+  pub writes-clean : t ≡ true → l .changed ≡ false → false ≡ mustWriteBack s r i
   unfolding holdsAt
   writes-clean f g = rw (← e, ← h, f, g)
 
-  pub writes-now : t ≡ true → l .changed ≡ true → true ≡ mustWriteBack 1 s r i
+  pub writes-now : t ≡ true → l .changed ≡ true → true ≡ mustWriteBack s r i
   unfolding holdsAt
   writes-now f g = rw (← e, ← h, f, g)
 
 -- a miss
-pub inserted-by : (s : Shape) (r c m : List ℕ) (i name line : ℕ) (write : Bool) (m₁ c₁ r₁ : List ℕ) → store r c m₁ ≡ writtenBack 1 s i (store r c m)
-    → c₁ ≡ withLine c i (lineOf m₁ line) → r₁ ≡ putLine r i (newLine name line write) → store r₁ c₁ m₁ ≡ inserted 1 s i name line write (store r c m)
+pub inserted-by : (s : Shape) (r c m : List ℕ) (i name line : ℕ) (write : Bool) (m₁ c₁ r₁ : List ℕ) → store r c m₁ ≡ writtenBack s i (store r c m)
+    → c₁ ≡ withLine c i (lineOf m₁ line) → r₁ ≡ putLine r i (newLine name line write) → store r₁ c₁ m₁ ≡ inserted s i name line write (store r c m)
 unfolding inserted noted filled
 inserted-by s r c m i name line write m₁ c₁ r₁ e f g = rw (g, f, ← e)
 

@@ -1,5 +1,4 @@
 -- 01, "The board" and "Calls": writing a line back, filling it, dropping it, loading from it and storing to it; and where its bytes stand now.
--- Stated over the number of lines in a set, `ways`: 1 in the base.
 use Prim.Native.Nat.{ℕ, _+_, _*_}
 use mathlib.Core.Bool.{Bool, _&&_, cond}
 use mathlib.Core.List.{List}
@@ -23,13 +22,13 @@ abbrev pub store : List ℕ → List ℕ → List ℕ → Store
 store r c m = record { records = r; cache = c; memory = m }
 
 -- the line of record i must be written back before another takes the record: it is held and changed
-abbrev pub mustWriteBack : ℕ → Shape → List ℕ → ℕ → Bool
-mustWriteBack ways s records i = holdsAt ways s records i && lineAt records i .changed
+abbrev pub mustWriteBack : Shape → List ℕ → ℕ → Bool
+mustWriteBack s records i = holdsAt s records i && lineAt records i .changed
 
 -- the line of record i to its own physical line, if it must be
-unfoldable pub writtenBack : ℕ → Shape → ℕ → Store → Store
-writtenBack ways s i b =
-    cond (mustWriteBack ways s (b .records) i)
+unfoldable pub writtenBack : Shape → ℕ → Store → Store
+writtenBack s i b =
+    cond (mustWriteBack s (b .records) i)
     (store (b .records) (b .cache) (withLine (b .memory) (lineAt (b .records) i .physical) (lineOf (b .cache) i)))
     b
 
@@ -42,8 +41,8 @@ unfoldable pub noted : ℕ → Line → Store → Store
 noted i l b = store (putLine (b .records) i l) (b .cache) (b .memory)
 
 -- a miss: the old line at record i written back if it must be, the new one filled and noted
-unfoldable pub inserted : ℕ → Shape → ℕ → ℕ → ℕ → Bool → Store → Store
-inserted ways s i name line write b = noted i (newLine name line write) (filled i line (writtenBack ways s i b))
+unfoldable pub inserted : Shape → ℕ → ℕ → ℕ → Bool → Store → Store
+inserted s i name line write b = noted i (newLine name line write) (filled i line (writtenBack s i b))
 
 -- to drop a line: its record not valid and all its fields 0
 unfoldable pub dropped : ℕ → Store → Store
@@ -70,5 +69,5 @@ currentBy cache memory line (At i) = lineOf cache i
 currentBy cache memory line Nothing = lineOf memory line
 
 -- the current sixteen bytes of a physical line: in the lowest record holding it, else in memory
-unfoldable pub current : ℕ → Shape → Store → ℕ → List ℕ
-current ways s b line = currentBy (b .cache) (b .memory) line (keeperOf ways s (b .records) line)
+unfoldable pub current : Shape → Store → ℕ → List ℕ
+current s b line = currentBy (b .cache) (b .memory) line (keeperOf s (b .records) line)

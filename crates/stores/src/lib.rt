@@ -21,7 +21,7 @@ pub struct Access {
 // Writes the line of record `i` back to its own physical line, if it is held and changed, and says whether it did.
 pub fn write_back(s: Shape, records: &[u64], cache: &[u8], memory: &mut [u8], i: usize) -> bool
     requires { ⌜ Sized s (now records) (now cache) (now memory) × (i < s .lines) ⌝ }
-    ensures { λ r. ⌜ (storeAfter records cache memory ≡ writtenBack 1 s i (storeBefore records cache memory)) × (r ≡ mustWriteBack 1 s (now (records .entry)) i) ⌝ }
+    ensures { λ r. ⌜ (storeAfter records cache memory ≡ writtenBack s i (storeBefore records cache memory)) × (r ≡ mustWriteBack s (now (records .entry)) i) ⌝ }
 {
     let l = lines::line_at(records, i);
     if lines::holds(s, i, l) {
@@ -46,7 +46,7 @@ pub fn insert(
     write: bool,
 ) -> bool
     requires { ⌜ Sized s (now records) (now cache) (now memory) × (i < s .lines) × (line < pageLines * s .frames) ⌝ }
-    ensures { λ r. ⌜ (storeAfter records cache memory ≡ inserted 1 s i name line write (storeBefore records cache memory)) × (r ≡ mustWriteBack 1 s (now (records .entry)) i) ⌝ }
+    ensures { λ r. ⌜ (storeAfter records cache memory ≡ inserted s i name line write (storeBefore records cache memory)) × (r ≡ mustWriteBack s (now (records .entry)) i) ⌝ }
 {
     let back = write_back(s, records, cache, memory, i);
     lines::put_line(

@@ -13,6 +13,7 @@ use Rattle.address.specs.declared.Physical.{Physical}
 use Rattle.address.specs.declared.Region.{Region}
 use Rattle.address.specs.declared.Region.the-variants.{Uncached, Cached, PageTable, Ordinary}
 use Rattle.board.specs.Shapes.{fitsShape}
+use Rattle.lines.specs.Victims.{Uses}
 use Rattle.board.specs.declared.Shape.{Shape}
 use Rattle.board.specs.declared.Pending.{Pending}
 use Rattle.line_bytes.specs.Premises.{Width, InWord}
@@ -173,10 +174,10 @@ module _ (s : Shape) (words : List ℕ) (tag : Pending) (a : Access) (g : Global
           let x : g .0 % 2 ^ 32 ≡ p .0 = ap (λ (w : Physical). w .0) (target-memory s words g (regionOf g) p (z .0) (z .1) .0) in
           omega (arith, memory-passed .in-word)
 
-      pub memory-inside : (slots r c m : List ℕ) (t : Bool) → t ≡ fitsShape s (length slots) (length words) (length r) (length c) (length m) → t ≡ true
-          → p .0 / 4 * 4 + 4 ≤ length m
-      memory-inside slots r c m t i h =
+      pub memory-inside : (slots r c m : List ℕ) (u : Uses) (t : Bool)
+          → t ≡ fitsShape s (length slots) (length words) (length r) (length c) (length m) (length u) → t ≡ true → p .0 / 4 * 4 + 4 ≤ length m
+      memory-inside slots r c m u t i h =
           let z = region-passed s words g (regionOf g) (Memory p) (memory-unstopped p) (plan-passed (Memory p) (memory-unstopped p) (sym f ∙ e) .1) in
           let y = target-memory s words g (regionOf g) p (z .0) (z .1) in
           let x : g .0 % 2 ^ 32 ≡ p .0 = ap (λ (w : Physical). w .0) (y .0) in
-          omega (arith, y .1, fit-uncached s slots words r c m t i h, fit-memory s slots words r c m t i h)
+          omega (arith, y .1, fit-uncached s slots words r c m u t i h, fit-memory s slots words r c m u t i h)

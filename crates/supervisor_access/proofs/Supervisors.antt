@@ -15,12 +15,13 @@ use Rattle.board.specs.Shapes.{fitsShape}
 use Rattle.board.specs.declared.Answer.{Answer}
 use Rattle.board.specs.declared.Shape.{Shape}
 use Rattle.board.specs.declared.Pending.{Pending}
+use Rattle.lines.specs.Victims.{Uses}
 use Rattle.reach.specs.Reach.{unreached, mayWrite}
 use Rattle.stores.specs.Stores.{store}
 use Rattle.stores.specs.declared.Access.{Access}
-use Rattle.machine.specs.Boards.{Board, board, Outcome, outcome, refused}
+use Rattle.machine.specs.Boards.{Board, setsBoard, Outcome, outcome, refused}
 use Rattle.machine.specs.Refusals.{Row, row, byTable, tooLarge, alignedTo, isGlobal, wordInUse, isOrdinary, isCached, outside}
-use Rattle.machine.specs.Accesses.{reached, stopped, wayTo, accessed, onBoard, frameUnder, memoryAccess, supervisorTable, supervisorDone, supervisorAccess}
+use Rattle.machine.specs.Accesses.{Reached, reached, stopped, touched, wayTo, accessed, onBoard, frameUnder, memoryAccess, supervisorTable, supervisorDone, supervisorAccess}
 use Rattle.machine.proofs.Tables.{table-map}
 use Rattle.machine.proofs.Prefixes.{region-cached, prefix-reached}
 use Rattle.line_access.specs.LineAccess.{lineAccess}
@@ -32,8 +33,8 @@ use Rattle.supervisor_access.specs.declared.Plan.the-variants.{Stop, Lin
 
 unfoldable planned : Shape → Board → Access → Plan → Outcome
 planned s b a (Stop n) = refused b n
-planned s b a (Line h) = onBoard b (lineAccess s (b .words) h false a (b .store))
-planned s b a (Memory p) = onBoard b (memoryAccess p a (b .store))
+planned s b a (Line h) = onBoard b (lineAccess s (b .words) h false a (b .store) (b .uses))
+planned s b a (Memory p) = onBoard b (touched (memoryAccess p a (b .store)) (b .uses))
 
 module _ (s : Shape) (b : Board) (a : Access) (g : Global) where
   -- the rows that a region's plan decides, and those of a line
@@ -44,17 +45,17 @@ module _ (s : Shape) (b : Board) (a : Access) (g : Global) where
       ∷ row 12 (outside s (frameUnder g) region) ∷ []
 
   abbrev regionDone : Region → Outcome
-  regionDone region = onBoard b (supervisorDone s (b .words) a g (b .store) region)
+  regionDone region = onBoard b (supervisorDone s (b .words) a g (b .store) (b .uses) region)
 
   -- only row 8 of a line is asked of a supervisor
   planned-line : planned s b a (Line g)
-      ≡ cond (unreached (wayTo s (b .words) (b .store .records) g)) (refused b 8) (onBoard b (accessed s (b .words) g a (b .store)))
+      ≡ cond (unreached (wayTo s (b .words) (b .store .records) g)) (refused b 8) (onBoard b (accessed s (b .words) g a (b .store) (b .uses)))
   unfolding planned lineAccess byTable
   planned-line =
-      table-map (onBoard b) (stopped (b .store))
+      table-map (onBoard b) (λ n. touched (stopped (b .store) n) (b .uses))
       (row 8 (unreached (wayTo s (b .words) (b .store .records) g))
       ∷ row 9 (false && (a .store && not (mayWrite (wayTo s (b .words) (b .store .records) g)))) ∷ [])
-      (accessed s (b .words) g a (b .store))
+      (accessed s (b .words) g a (b .store) (b .uses))
 
   rows-ordinary : planned s b a (regionPlan s (b .words) g Ordinary) ≡ byTable (refused b) (regionRows Ordinary) (regionDone Ordinary)
   unfolding regionPlan byTable isOrdinary isCached outside target supervisorDone
@@ -81,7 +82,7 @@ module _ (s : Shape) (b : Board) (a : Access) (g : Global) where
       table-map (planned s b a) Stop (row 10 (wordInUse (b .words) (frameUnder g)) ∷ row 12 (outside s (frameUnder g) Cached) ∷ []) (Line g)
       ∙ ap (λ (d : Outcome). cond (wordInUse (b .words) (frameUnder g)) (refused b 10) (cond (outside s (frameUnder g) Cached) (refused b 12) d)) planned-line
       ∙ row-8-passed (wordInUse (b .words) (frameUnder g)) (outside s (frameUnder g) Cached) (unreached (wayTo s (b .words) (b .store .records) g))
-      (onBoard b (accessed s (b .words) g a (b .store))) (prefix-reached s (b .words) g p (b .store .records))
+      (onBoard b (accessed s (b .words) g a (b .store) (b .uses))) (prefix-reached s (b .words) g p (b .store .records))
 
   rows-region : (region : Region) → regionOf g ≡ region
       → planned s b a (regionPlan s (b .words) g region) ≡ byTable (refused b) (regionRows region) (regionDone region)
@@ -102,31 +103,32 @@ module _ (s : Shape) (b : Board) (a : Access) (g : Global) where
       ∙ ap (byTable (refused b) (row 2 (not (isGlobal g) || tooLarge a) ∷ row 3 (isOrdinary (regionOf g) && b .tag .set) ∷ row 4 (not (alignedTo (a .width) (g .0))) ∷ []))
       (rows-region (regionOf g) refl)
 
-module _ (s : Shape) (slots words r c m : List ℕ) (tag : Pending) (a : Access) (g : Global) (t : Bool)
-    (f : t ≡ fitsShape s (length slots) (length words) (length r) (length c) (length m)) where
+module _ (s : Shape) (slots words r c m : List ℕ) (u : Uses) (tag : Pending) (a : Access) (g : Global) (t : Bool)
+    (f : t ≡ fitsShape s (length slots) (length words) (length r) (length c) (length m) (length u)) where
   pub supervisor-unfit : (x : Answer) → t ≡ false → x ≡ answer 1 0 0
-      → outcome x (board slots words r c m tag) ≡ supervisorAccess s (board slots words r c m tag) a g
+      → outcome x (setsBoard slots words r c m u tag) ≡ supervisorAccess s (setsBoard slots words r c m u tag) a g
   unfolding supervisorAccess supervisorTable byTable
   supervisor-unfit x h k = rw (k, ← f, h)
 
   module _ (h : t ≡ true) (k : Plan) (q : k ≡ supervisorPlan s words tag a g) where
-    supervisor-on : planned s (board slots words r c m tag) a k ≡ supervisorAccess s (board slots words r c m tag) a g
+    supervisor-on : planned s (setsBoard slots words r c m u tag) a k ≡ supervisorAccess s (setsBoard slots words r c m u tag) a g
     unfolding supervisorAccess supervisorTable byTable
-    supervisor-on = ap (planned s (board slots words r c m tag) a) q ∙ planned-rows s (board slots words r c m tag) a g ∙ rw (← f, h)
+    supervisor-on = ap (planned s (setsBoard slots words r c m u tag) a) q ∙ planned-rows s (setsBoard slots words r c m u tag) a g ∙ rw (← f, h)
 
     pub supervisor-stopped : (n : ℕ) (x : Answer) → k ≡ Stop n → x ≡ answer n 0 0
-        → outcome x (board slots words r c m tag) ≡ supervisorAccess s (board slots words r c m tag) a g
+        → outcome x (setsBoard slots words r c m u tag) ≡ supervisorAccess s (setsBoard slots words r c m u tag) a g
     unfolding planned
-    supervisor-stopped n x i j = rw j (ap (planned s (board slots words r c m tag) a) (sym i) ∙ supervisor-on)
+    supervisor-stopped n x i j = rw j (ap (planned s (setsBoard slots words r c m u tag) a) (sym i) ∙ supervisor-on)
 
-    pub supervisor-line : (l : Global) (x : Answer) (r₁ c₁ m₁ : List ℕ) → k ≡ Line l → reached x r₁ c₁ m₁ ≡ lineAccess s words l false a (store r c m)
-        → outcome x (board slots words r₁ c₁ m₁ tag) ≡ supervisorAccess s (board slots words r c m tag) a g
+    pub supervisor-line : (l : Global) (x : Answer) (r₁ c₁ m₁ : List ℕ) (u₁ : Uses) → k ≡ Line l
+        → touched (reached x r₁ c₁ m₁) u₁ ≡ lineAccess s words l false a (store r c m) u
+        → outcome x (setsBoard slots words r₁ c₁ m₁ u₁ tag) ≡ supervisorAccess s (setsBoard slots words r c m u tag) a g
     unfolding planned
-    supervisor-line l x r₁ c₁ m₁ i d =
-        ap (onBoard (board slots words r c m tag)) d ∙ ap (planned s (board slots words r c m tag) a) (sym i) ∙ supervisor-on
+    supervisor-line l x r₁ c₁ m₁ u₁ i d =
+        ap (onBoard (setsBoard slots words r c m u tag)) d ∙ ap (planned s (setsBoard slots words r c m u tag) a) (sym i) ∙ supervisor-on
 
     pub supervisor-memory : (p : Physical) (x : Answer) (m₁ : List ℕ) → k ≡ Memory p → reached x r c m₁ ≡ memoryAccess p a (store r c m)
-        → outcome x (board slots words r c m₁ tag) ≡ supervisorAccess s (board slots words r c m tag) a g
+        → outcome x (setsBoard slots words r c m₁ u tag) ≡ supervisorAccess s (setsBoard slots words r c m u tag) a g
     unfolding planned
     supervisor-memory p x m₁ i d =
-        ap (onBoard (board slots words r c m tag)) d ∙ ap (planned s (board slots words r c m tag) a) (sym i) ∙ supervisor-on
+        ap (λ (y : Reached). onBoard (setsBoard slots words r c m u tag) (touched y u)) d ∙ ap (planned s (setsBoard slots words r c m u tag) a) (sym i) ∙ supervisor-on

@@ -1,7 +1,7 @@
 // 01, "Calls": a supervisor's load or store, by global address.
 ghost use mathlib.Core.Path.{_≡_};
 ghost use lib.ListN.{length};
-ghost use Rattle.machine.specs.Contracts.{before, after, SupervisorAccess};
+ghost use Rattle.machine.specs.Contracts.{setsBefore, setsAfter, SupervisorAccess};
 ghost use Rattle.supervisor_access.specs.Plans.{regionPlan, waits, supervisorPlan};
 use address::GLOBAL_END;
 use address::Global;
@@ -103,11 +103,12 @@ pub fn supervisor_access(
     records: &mut [u64],
     cache: &mut [u8],
     memory: &mut [u8],
+    uses: &mut [[[u8; 4]; 4]],
     tag: Pending,
     a: Access,
     g: Global,
 ) -> Answer
-    ensures { λ r. ⌜ SupervisorAccess s (before slots words records cache memory tag) a g r (after slots words records cache memory tag) ⌝ }
+    ensures { λ r. ⌜ SupervisorAccess s (setsBefore slots words records cache memory uses tag) a g r (setsAfter slots words records cache memory uses tag) ⌝ }
 {
     if board::fits(
         s,
@@ -116,6 +117,7 @@ pub fn supervisor_access(
         records.len(),
         cache.len(),
         memory.len(),
+        uses.len(),
     ) {
         match supervisor_plan(s, words, tag, a, g) {
             Plan::Stop(n) => numbered(n),
@@ -125,6 +127,7 @@ pub fn supervisor_access(
                 records,
                 cache,
                 memory,
+                uses,
                 h,
                 false,
                 a,

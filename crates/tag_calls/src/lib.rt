@@ -2,7 +2,7 @@
 ghost use mathlib.Core.Path.{_≡_};
 ghost use Rattle.board.specs.Answers.{answer};
 ghost use Rattle.machine.specs.Boards.{noTag};
-ghost use Rattle.machine.specs.Contracts.{before, after, Tag, DropTag};
+ghost use Rattle.machine.specs.Contracts.{setsBefore, setsAfter, before, after, Tag, DropTag};
 use address::PAGE_NAMES;
 use board::Answer;
 use board::Pending;
@@ -39,17 +39,18 @@ pub fn cleared() -> Tagged
 }
 
 // Remembers a line name.
-pub fn tag(
+pub fn tag_with(
     s: Shape,
     slots: &[u32],
     words: &[u64],
     records: &[u64],
     cache: &[u8],
     memory: &[u8],
+    uses: &[[[u8; 4]; 4]],
     pending: Pending,
     name: u64,
 ) -> Tagged
-    ensures { λ r. ⌜ Tag s (before slots words records cache memory pending) name (r .answer) (after slots words records cache memory (r .tag)) ⌝ }
+    ensures { λ r. ⌜ Tag s (setsBefore slots words records cache memory uses pending) name (r .answer) (setsAfter slots words records cache memory uses (r .tag)) ⌝ }
 {
     if board::fits(
         s,
@@ -58,6 +59,7 @@ pub fn tag(
         records.len(),
         cache.len(),
         memory.len(),
+        uses.len(),
     ) {
         if address::ordinary_page(name / PAGE_NAMES) {
             if pending.set {
@@ -77,7 +79,65 @@ pub fn tag(
     }
 }
 
+// The same in 01's edition, which has no matrices.
+pub fn tag(
+    s: Shape,
+    slots: &[u32],
+    words: &[u64],
+    records: &[u64],
+    cache: &[u8],
+    memory: &[u8],
+    pending: Pending,
+    name: u64,
+) -> Tagged
+    ensures { λ r. ⌜ Tag s (before slots words records cache memory pending) name (r .answer) (after slots words records cache memory (r .tag)) ⌝ }
+{
+    let none: [[[u8; 4]; 4]; 0] = [];
+    tag_with(
+        s,
+        slots,
+        words,
+        records,
+        cache,
+        memory,
+        &none,
+        pending,
+        name,
+    )
+}
+
 // Forgets the pending name.
+pub fn drop_tag_with(
+    s: Shape,
+    slots: &[u32],
+    words: &[u64],
+    records: &[u64],
+    cache: &[u8],
+    memory: &[u8],
+    uses: &[[[u8; 4]; 4]],
+    pending: Pending,
+) -> Tagged
+    ensures { λ r. ⌜ DropTag s (setsBefore slots words records cache memory uses pending) (r .answer) (setsAfter slots words records cache memory uses (r .tag)) ⌝ }
+{
+    if board::fits(
+        s,
+        slots.len(),
+        words.len(),
+        records.len(),
+        cache.len(),
+        memory.len(),
+        uses.len(),
+    ) {
+        if pending.set {
+            return cleared();
+        }
+        kept(3, pending)
+    } else {
+        kept(1, pending)
+    }
+}
+
+// The same in 01's edition, which has no matrices.
 pub fn drop_tag(
     s: Shape,
     slots: &[u32],
@@ -89,19 +149,6 @@ pub fn drop_tag(
 ) -> Tagged
     ensures { λ r. ⌜ DropTag s (before slots words records cache memory pending) (r .answer) (after slots words records cache memory (r .tag)) ⌝ }
 {
-    if board::fits(
-        s,
-        slots.len(),
-        words.len(),
-        records.len(),
-        cache.len(),
-        memory.len(),
-    ) {
-        if pending.set {
-            return cleared();
-        }
-        kept(3, pending)
-    } else {
-        kept(1, pending)
-    }
+    let none: [[[u8; 4]; 4]; 0] = [];
+    drop_tag_with(s, slots, words, records, cache, memory, &none, pending)
 }

@@ -54,6 +54,7 @@ fn shape(frames: usize) -> Shape {
         uncached: 1,
         processes: 2,
         lines: 2,
+        ways: 1,
     }
 }
 
@@ -67,6 +68,7 @@ fn answer(
     pending: Pending,
     c: Asked,
 ) -> Tagged {
+    let none: [[[u8; 4]; 4]; 0] = [];
     match c {
         Asked::Tag(name) => tag_bridges::tag_through(
             shape(4),
@@ -96,6 +98,7 @@ fn answer(
                 records,
                 cache,
                 memory,
+                &none,
                 PAGE,
                 FRAME,
                 true,

@@ -5,7 +5,7 @@ ghost use Prim.Native.Nat.{_*_, _≤_};
 ghost use lib.ListN.{length};
 ghost use Rattle.address.specs.Layout.{processSlots};
 ghost use Rattle.board.specs.Shapes.{maxProcesses, fitsShape};
-ghost use Rattle.machine.specs.Contracts.{before, after, UserAccess};
+ghost use Rattle.machine.specs.Contracts.{setsBefore, setsAfter, UserAccess};
 ghost use Rattle.user_access.specs.Checks.{refusedBy, slotCheck, userCheck};
 use address::Effective;
 use address::Global;
@@ -85,17 +85,28 @@ pub fn fitting_access(
     records: &mut [u64],
     cache: &mut [u8],
     memory: &mut [u8],
+    uses: &mut [[[u8; 4]; 4]],
     tag: Pending,
     process: usize,
     a: Access,
     e: Effective,
 ) -> Answer
-    requires { ⌜ fitsShape s (length (now slots)) (length (now words)) (length (now records)) (length (now cache)) (length (now memory)) ≡ true ⌝ }
-    ensures { λ r. ⌜ UserAccess s (before slots words records cache memory tag) process a e r (after slots words records cache memory tag) ⌝ }
+    requires { ⌜ fitsShape s (length (now slots)) (length (now words)) (length (now records)) (length (now cache)) (length (now memory)) (length (now uses)) ≡ true ⌝ }
+    ensures { λ r. ⌜ UserAccess s (setsBefore slots words records cache memory uses tag) process a e r (setsAfter slots words records cache memory uses tag) ⌝ }
 {
     match user_check(s, slots, tag, process, a, e) {
         Check::Refuse(n) => numbered(n),
-        Check::Go(g) => line_access::line_access(s, words, records, cache, memory, g, true, a),
+        Check::Go(g) => line_access::line_access(
+            s,
+            words,
+            records,
+            cache,
+            memory,
+            uses,
+            g,
+            true,
+            a,
+        ),
     }
 }
 
@@ -107,12 +118,13 @@ pub fn user_access(
     records: &mut [u64],
     cache: &mut [u8],
     memory: &mut [u8],
+    uses: &mut [[[u8; 4]; 4]],
     tag: Pending,
     process: usize,
     a: Access,
     e: Effective,
 ) -> Answer
-    ensures { λ r. ⌜ UserAccess s (before slots words records cache memory tag) process a e r (after slots words records cache memory tag) ⌝ }
+    ensures { λ r. ⌜ UserAccess s (setsBefore slots words records cache memory uses tag) process a e r (setsAfter slots words records cache memory uses tag) ⌝ }
 {
     if board::fits(
         s,
@@ -121,8 +133,21 @@ pub fn user_access(
         records.len(),
         cache.len(),
         memory.len(),
+        uses.len(),
     ) {
-        fitting_access(s, slots, words, records, cache, memory, tag, process, a, e)
+        fitting_access(
+            s,
+            slots,
+            words,
+            records,
+            cache,
+            memory,
+            uses,
+            tag,
+            process,
+            a,
+            e,
+        )
     } else {
         numbered(1)
     }

@@ -7,7 +7,7 @@ ghost use lib.ListN.{length};
 ghost use Rattle.board.specs.Shapes.{fitsShape};
 ghost use Rattle.machine.specs.Boards.{outcome};
 ghost use Rattle.machine.specs.Lists.{accessWords, askAt, asksFrom, answered, accessOn, oneByOne};
-ghost use Rattle.machine.specs.Contracts.{before, after, UserAccesses};
+ghost use Rattle.machine.specs.Contracts.{setsBefore, setsAfter, UserAccesses};
 ghost use Rattle.crossing.specs.Packing.{unpacked, unpackedAll};
 ghost use Rattle.user_lists.specs.Asks.{askOf};
 use address::Effective;
@@ -60,12 +60,13 @@ fn one_access(
     records: &mut [u64],
     cache: &mut [u8],
     memory: &mut [u8],
+    uses: &mut [[[u8; 4]; 4]],
     tag: Pending,
     accesses: &[u32],
     i: usize,
 ) -> u64
-    requires { ⌜ (fitsShape s (length (now slots)) (length (now words)) (length (now records)) (length (now cache)) (length (now memory)) ≡ true) × (accessWords * i + accessWords ≤ length (now accesses)) ⌝ }
-    ensures { λ r. ⌜ outcome (unpacked r) (after slots words records cache memory tag) ≡ accessOn s (before slots words records cache memory tag) (askAt (now (accesses .entry)) i) ⌝ }
+    requires { ⌜ (fitsShape s (length (now slots)) (length (now words)) (length (now records)) (length (now cache)) (length (now memory)) (length (now uses)) ≡ true) × (accessWords * i + accessWords ≤ length (now accesses)) ⌝ }
+    ensures { λ r. ⌜ outcome (unpacked r) (setsAfter slots words records cache memory uses tag) ≡ accessOn s (setsBefore slots words records cache memory uses tag) (askAt (now (accesses .entry)) i) ⌝ }
 {
     let k = ask_at(accesses, i);
     let a = k.access;
@@ -77,6 +78,7 @@ fn one_access(
         records,
         cache,
         memory,
+        uses,
         tag,
         k.process,
         a,
@@ -93,16 +95,28 @@ fn all_accesses(
     records: &mut [u64],
     cache: &mut [u8],
     memory: &mut [u8],
+    uses: &mut [[[u8; 4]; 4]],
     tag: Pending,
     accesses: &[u32],
     answers: &mut [u64],
 )
-    requires { ⌜ (fitsShape s (length (now slots)) (length (now words)) (length (now records)) (length (now cache)) (length (now memory)) ≡ true) × (length (now accesses) ≡ accessWords * length (now answers)) ⌝ }
-    ensures { λ _. ⌜ answered (unpackedAll (now (answers .exit))) (after slots words records cache memory tag) ≡ oneByOne s (before slots words records cache memory tag) (asksFrom (now (accesses .entry)) 0 (length (now (answers .entry)))) ⌝ }
+    requires { ⌜ (fitsShape s (length (now slots)) (length (now words)) (length (now records)) (length (now cache)) (length (now memory)) (length (now uses)) ≡ true) × (length (now accesses) ≡ accessWords * length (now answers)) ⌝ }
+    ensures { λ _. ⌜ answered (unpackedAll (now (answers .exit))) (setsAfter slots words records cache memory uses tag) ≡ oneByOne s (setsBefore slots words records cache memory uses tag) (asksFrom (now (accesses .entry)) 0 (length (now (answers .entry)))) ⌝ }
 {
     let mut i: usize = 0;
     while i < answers.len() {
-        let x = one_access(s, slots, words, records, cache, memory, tag, accesses, i);
+        let x = one_access(
+            s,
+            slots,
+            words,
+            records,
+            cache,
+            memory,
+            uses,
+            tag,
+            accesses,
+            i,
+        );
         answers[i] = x;
         i += 1;
     }
@@ -123,11 +137,12 @@ pub fn user_accesses(
     records: &mut [u64],
     cache: &mut [u8],
     memory: &mut [u8],
+    uses: &mut [[[u8; 4]; 4]],
     tag: Pending,
     accesses: &[u32],
     answers: &mut [u64],
 ) -> Answer
-    ensures { λ r. ⌜ UserAccesses s (before slots words records cache memory tag) (now (accesses .entry)) (unpackedAll (now (answers .entry))) r (answered (unpackedAll (now (answers .exit))) (after slots words records cache memory tag)) ⌝ }
+    ensures { λ r. ⌜ UserAccesses s (setsBefore slots words records cache memory uses tag) (now (accesses .entry)) (unpackedAll (now (answers .entry))) r (answered (unpackedAll (now (answers .exit))) (setsAfter slots words records cache memory uses tag)) ⌝ }
 {
     if board::fits(
         s,
@@ -136,6 +151,7 @@ pub fn user_accesses(
         records.len(),
         cache.len(),
         memory.len(),
+        uses.len(),
     ) {
         if lists_agree(accesses.len(), answers.len()) {
             all_accesses(
@@ -145,6 +161,7 @@ pub fn user_accesses(
                 records,
                 cache,
                 memory,
+                uses,
                 tag,
                 accesses,
                 answers,

@@ -29,30 +29,30 @@ module _ (page : ℕ) (r : Range) (e : r ≡ pageNames page) where
   page-is d = rw e
 
 module _ (s : Shape) (d : Deed) (i : ℕ) (r c m r₁ : List ℕ) where
-  pub treated-drop : d ≡ Drop → r₁ ≡ putLine r i noLine → store r₁ c m ≡ treated 1 s d i (store r c m)
+  pub treated-drop : d ≡ Drop → r₁ ≡ putLine r i noLine → store r₁ c m ≡ treated s d i (store r c m)
   unfolding treated dropped noted
   treated-drop k f = rw (k, f)
 
-  pub treated-permit : (write : Bool) → d ≡ Permit write → r₁ ≡ putLine r i (permittedLine (lineAt r i) write) → store r₁ c m ≡ treated 1 s d i (store r c m)
+  pub treated-permit : (write : Bool) → d ≡ Permit write → r₁ ≡ putLine r i (permittedLine (lineAt r i) write) → store r₁ c m ≡ treated s d i (store r c m)
   unfolding treated noted
   treated-permit write k f = rw (k, f)
 
-  pub treated-retire : (m₁ : List ℕ) → store r c m₁ ≡ writtenBack 1 s i (store r c m) → r₁ ≡ putLine r i noLine → d ≡ Retire
-      → store r₁ c m₁ ≡ treated 1 s d i (store r c m)
+  pub treated-retire : (m₁ : List ℕ) → store r c m₁ ≡ writtenBack s i (store r c m) → r₁ ≡ putLine r i noLine → d ≡ Retire
+      → store r₁ c m₁ ≡ treated s d i (store r c m)
   unfolding treated dropped noted
   treated-retire m₁ w f k = rw (k, f, ← w)
 
 module _ (s : Shape) (v : Visit) (i : ℕ) (r c m : List ℕ) (l : Line) (u : Bool) (e : l ≡ lineAt r i) (k : u ≡ selects v l) where
-  pub visited-other : u ≡ false → store r c m ≡ visited 1 s v i (store r c m)
+  pub visited-other : u ≡ false → store r c m ≡ visited s v i (store r c m)
   unfolding visited
-  visited-other f = rw (← e, ← k, f, and-false (holdsAt 1 s r i))
+  visited-other f = rw (← e, ← k, f, and-false (holdsAt s r i))
 
-  module _ (t : Bool) (h : t ≡ holdsLine 1 s i l) (n : u ≡ true) where
-    pub visited-none : t ≡ false → store r c m ≡ visited 1 s v i (store r c m)
+  module _ (t : Bool) (h : t ≡ holdsLine s i l) (n : u ≡ true) where
+    pub visited-none : t ≡ false → store r c m ≡ visited s v i (store r c m)
     unfolding visited holdsAt
     visited-none f = rw (← e, ← h, f)
 
-    pub visited-treated : (r₁ m₁ : List ℕ) → t ≡ true → store r₁ c m₁ ≡ treated 1 s (v .deed) i (store r c m) → store r₁ c m₁ ≡ visited 1 s v i (store r c m)
+    pub visited-treated : (r₁ m₁ : List ℕ) → t ≡ true → store r₁ c m₁ ≡ treated s (v .deed) i (store r c m) → store r₁ c m₁ ≡ visited s v i (store r c m)
     unfolding visited holdsAt
     visited-treated r₁ m₁ f g = rw (← e, ← h, ← k, f, n) g
 

@@ -1,4 +1,4 @@
--- What map, unmap, protect and flush all do to the lines, record by record and by rising place.
+-- What map, unmap, protect and flush all do to the lines, record by record and by rising record, so by rising place.
 use Prim.Native.Nat.{ℕ, zero, suc}
 use mathlib.Core.Bool.{Bool, _&&_, cond}
 use Rattle.pages.specs.Pages.{directPage}
@@ -39,21 +39,21 @@ abbrev pub selects : Visit → Line → Bool
 selects v l = named (v .names) (l .name)
 
 -- what is done to the line of record i: dropped; written back if changed, and dropped; or given the permission
-unfoldable pub treated : ℕ → Shape → Deed → ℕ → Store → Store
-treated ways s Drop i b = dropped i b
-treated ways s Retire i b = dropped i (writtenBack ways s i b)
-treated ways s (Permit write) i b = noted i (permittedLine (lineAt (b .records) i) write) b
+unfoldable pub treated : Shape → Deed → ℕ → Store → Store
+treated s Drop i b = dropped i b
+treated s Retire i b = dropped i (writtenBack s i b)
+treated s (Permit write) i b = noted i (permittedLine (lineAt (b .records) i) write) b
 
 -- record i visited: only held lines change
-unfoldable pub visited : ℕ → Shape → Visit → ℕ → Store → Store
-visited ways s v i b =
-    cond (holdsAt ways s (b .records) i && selects v (lineAt (b .records) i)) (treated ways s (v .deed) i b) b
+unfoldable pub visited : Shape → Visit → ℕ → Store → Store
+visited s v i b =
+    cond (holdsAt s (b .records) i && selects v (lineAt (b .records) i)) (treated s (v .deed) i b) b
 
 -- what f does, done to the n records from i on, one after the other
 unfoldable pub sweep : (ℕ → Store → Store) → ℕ → ℕ → Store → Store
 sweep f zero i b = b
 sweep f (suc n) i b = sweep f n (suc i) (f i b)
 
--- every record visited, by rising place
-unfoldable pub visitedAll : ℕ → Shape → Visit → Store → Store
-visitedAll ways s v b = sweep (visited ways s v) (s .lines) 0 b
+-- every record visited, by rising record
+unfoldable pub visitedAll : Shape → Visit → Store → Store
+visitedAll s v b = sweep (visited s v) (s .lines) 0 b

@@ -12,13 +12,13 @@ use Rattle.visits.specs.Visits.{visited, sweep, visitedAll}
 use Rattle.visits.specs.declared.Visit.{Visit}
 
 -- the records of each run visited, in the order of the list
-unfoldable pub visitedRuns : ℕ → Shape → Visit → List Run → Store → Store
-visitedRuns ways s v [] b = b
-visitedRuns ways s v (r ∷ rs) b = visitedRuns ways s v rs (sweep (visited ways s v) ((r .end - r .start) * ways) (r .start * ways) b)
+unfoldable pub visitedRuns : Shape → Visit → List Run → Store → Store
+visitedRuns s v [] b = b
+visitedRuns s v (r ∷ rs) b = visitedRuns s v rs (sweep (visited s v) ((r .end - r .start) * s .ways) (r .start * s .ways) b)
 
 pub record Walks : Type 0 where
   -- a record at a place of none of the names is left as it is
-  pub elsewhere : (ways : ℕ) (s : Shape) (v : Visit) (i : ℕ) (b : Store) → (HasPlace (s .lines / ways) (v .names) (i / ways) → ⊥) → visited ways s v i b ≡ b
+  pub elsewhere : (s : Shape) (v : Visit) (i : ℕ) (b : Store) → (HasPlace (s .lines / s .ways) (v .names) (i / s .ways) → ⊥) → visited s v i b ≡ b
   -- the places of the names are enough
-  pub enough : (ways : ℕ) (s : Shape) (v : Visit) (rs : List Run) (b : Store) → 0 < ways → 0 < s .lines / ways → Runs (s .lines / ways) (v .names) 0 rs
-      → visitedRuns ways s v rs b ≡ visitedAll ways s v b
+  pub enough : (s : Shape) (v : Visit) (rs : List Run) (b : Store) → 0 < s .ways → 0 < s .lines / s .ways → Runs (s .lines / s .ways) (v .names) 0 rs
+      → visitedRuns s v rs b ≡ visitedAll s v b

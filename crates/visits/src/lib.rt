@@ -4,6 +4,7 @@ ghost use mathlib.Core.Path.{_≡_};
 ghost use Prim.Native.Nat.{_-_, _≤_, _<_};
 ghost use Rattle.address.specs.Layout.{pageEnd};
 ghost use Rattle.board.specs.Shapes.{maxFrames};
+ghost use Rattle.lines.specs.Holds.{setsOf, setAt, firstAt};
 ghost use Rattle.stores.specs.Premises.{Sized};
 ghost use Rattle.stores.specs.Lent.{storeBefore, storeAfter};
 ghost use Rattle.ranges.specs.Ranges.{pageNames};
@@ -81,7 +82,7 @@ pub fn of_flush() -> Visit
 // Does the deed to the line of record `i`.
 fn treat(s: Shape, records: &mut [u64], cache: &[u8], memory: &mut [u8], i: usize, d: Deed)
     requires { ⌜ Sized s (now records) (now cache) (now memory) × (i < s .lines) ⌝ }
-    ensures { λ _. ⌜ storeAfter records cache memory ≡ treated 1 s d i (storeBefore records cache memory) ⌝ }
+    ensures { λ _. ⌜ storeAfter records cache memory ≡ treated s d i (storeBefore records cache memory) ⌝ }
 {
     match d {
         Deed::Drop => {
@@ -99,8 +100,8 @@ fn treat(s: Shape, records: &mut [u64], cache: &[u8], memory: &mut [u8], i: usiz
 
 // Visits record `i`, whose place is one of the names' (asked so that no other record is visited): only a held line of theirs changes.
 fn visit_line(s: Shape, records: &mut [u64], cache: &[u8], memory: &mut [u8], i: usize, v: Visit)
-    requires { ⌜ Sized s (now records) (now cache) (now memory) × (i < s .lines) × HasPlace (s .lines) (v .names) i ⌝ }
-    ensures { λ _. ⌜ storeAfter records cache memory ≡ visited 1 s v i (storeBefore records cache memory) ⌝ }
+    requires { ⌜ Sized s (now records) (now cache) (now memory) × (i < s .lines) × HasPlace (setsOf s) (v .names) (setAt s i) ⌝ }
+    ensures { λ _. ⌜ storeAfter records cache memory ≡ visited s v i (storeBefore records cache memory) ⌝ }
 {
     let l = lines::line_at(records, i);
     let names = v.names;
@@ -114,27 +115,27 @@ fn visit_line(s: Shape, records: &mut [u64], cache: &[u8], memory: &mut [u8], i:
 
 // Visits the records of a run of places of the names.
 fn visit_run(s: Shape, records: &mut [u64], cache: &[u8], memory: &mut [u8], v: Visit, run: Run)
-    requires { ⌜ Sized s (now records) (now cache) (now memory) × (run .end ≤ s .lines) × Inside (s .lines) (v .names) run ⌝ }
-    ensures { λ _. ⌜ storeAfter records cache memory ≡ sweep (visited 1 s v) (run .end - run .start) (run .start) (storeBefore records cache memory) ⌝ }
+    requires { ⌜ Sized s (now records) (now cache) (now memory) × (run .start ≤ run .end) × (run .end ≤ setsOf s) × Inside (setsOf s) (v .names) run ⌝ }
+    ensures { λ _. ⌜ storeAfter records cache memory ≡ sweep (visited s v) (firstAt s (run .end - run .start)) (firstAt s (run .start)) (storeBefore records cache memory) ⌝ }
 {
-    let end = run.end;
-    let mut i = run.start;
+    let end = lines::first_at(s, run.end);
+    let mut i = lines::first_at(s, run.start);
     while i < end {
         visit_line(s, records, cache, memory, i, v);
         i += 1;
     }
 }
 
-// Visits the places of the names, run by run and by rising place: no other record can hold a line of theirs.
+// Visits the places of the names, run by run and by rising record: no other record can hold a line of theirs.
 pub fn visit_names(s: Shape, records: &mut [u64], cache: &[u8], memory: &mut [u8], v: Visit)
     requires { ⌜ Sized s (now records) (now cache) (now memory) ⌝ }
-    ensures { λ _. ⌜ storeAfter records cache memory ≡ visitedAll 1 s v (storeBefore records cache memory) ⌝ }
+    ensures { λ _. ⌜ storeAfter records cache memory ≡ visitedAll s v (storeBefore records cache memory) ⌝ }
 {
-    let lines = s.lines;
+    let sets = lines::sets_of(s);
     let names = v.names;
     let mut place: usize = 0;
-    while place < lines {
-        let run = ranges::next_run(lines, names, place);
+    while place < sets {
+        let run = ranges::next_run(sets, names, place);
         visit_run(s, records, cache, memory, v, run);
         place = run.end;
     }

@@ -8,7 +8,8 @@ use Rattle.line_calls.proofs.current_part.Tie as tie
 pub current-part-spec : {M : Type 1} → statement M
 current-part-spec =
     tie.close (tie.spec
-    (search needs) (search needs)
+    (λ c κs. search needs)
+    (search needs)
     (λ c. omega (arith, keeper-inside _ _ _ _ _ (c .before .before .before .keeper-of .ensures) (c .before .i .given .1)))
     (λ c. omega (arith, keeper-inside _ _ _ _ _ (c .before .before .before .keeper-of .ensures) (c .before .i .given .1)))
     (search needs) (search needs)

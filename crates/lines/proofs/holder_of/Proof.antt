@@ -1,5 +1,5 @@
--- `holder_of` tests the one record where a name may stand.
-use Rattle.lines.proofs.Holders.{holder-at, holder-none, holder-other}
+-- `holder_of` looks at the records of the name's set: four, or one.
+use Rattle.lines.proofs.Holders.{first-room, four-inside, holder-four, holder-at, holder-none}
 use borrow.Author.Needs.{needs}
 use Rattle.lines.proofs.holder_of.Statement.{statement}
 use Rattle.lines.proofs.holder_of.Tie as tie
@@ -7,7 +7,10 @@ use Rattle.lines.proofs.holder_of.Tie as tie
 pub holder-of-spec : {M : Type 1} → statement M
 holder-of-spec =
     tie.close (tie.spec
-    (search needs) (search needs) (search needs)
+    (λ c κs. search needs)
+    (λ c κs. search needs)
+    (λ c κs. search (needs, four-inside))
+    (λ c. search (needs, holder-four))
+    (λ c κs. search (needs, first-room))
     (λ c. search (needs, holder-at))
-    (λ c. search (needs, holder-none))
-    (λ c. search (needs, holder-other)))
+    (λ c. search (needs, holder-none)))

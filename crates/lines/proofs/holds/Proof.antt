@@ -1,4 +1,4 @@
--- `holds` tests the place by `place_of`.
+-- `holds` tests the place by the name and by the record.
 use Rattle.lines.proofs.Holders.{holds-by}
 use borrow.Author.Needs.{needs}
 use Rattle.lines.proofs.holds.Statement.{statement}
@@ -7,5 +7,7 @@ use Rattle.lines.proofs.holds.Tie as tie
 pub holds-spec : {M : Type 1} → statement M
 holds-spec =
     tie.close (tie.spec
-    (search needs) (search needs)
+    (λ c κs. c .pre)
+    (λ c κs. c .before .pre)
+    (search needs)
     (λ c. search (needs, holds-by)))

@@ -2,14 +2,15 @@
 use Prim.Native.Nat.{_-_}
 use mathlib.Core.Path.{_≡_, _∙_, sym}
 use native.Mathlib.Nat.{sub-zero}
-use Rattle.lines.specs.Holds.{keeperFrom, keeperOf}
-use Rattle.lines.proofs.Holders.{keeper-here, keeper-more, keeper-end}
+use Rattle.board.specs.Searches.{first}
+use Rattle.board.proofs.Searches.{first-here, first-more, first-end}
+use Rattle.lines.specs.Holds.{keepsLine, keeperOf}
 use borrow.Author.Needs.{needs}
 use Rattle.lines.proofs.keeper_of.Statement.{statement}
 use Rattle.lines.proofs.keeper_of.Tie as tie
 
 abbrev Inv-loop : tie.InvT-loop
-Inv-loop s records line lines i₀ i = keeperOf 1 s records line ≡ keeperFrom 1 s records line i (s .lines - i)
+Inv-loop s records line lines i₀ i = keeperOf s records line ≡ first (keepsLine s records line) i (s .lines - i)
 
 abbrev μ-loop : tie.MeasureT-loop
 μ-loop s records line lines i₀ i = lines - i
@@ -20,8 +21,8 @@ keeper-of-spec =
     tie.close (tie.spec
     Inv-loop μ-loop
     (λ c. rw sub-zero)
-    (search needs)
-    (λ c. sym (c .before .before .before .loop .inv ∙ search (needs, keeper-here)))
+    (λ c κs. search needs)
+    (λ c. sym (c .before .before .before .loop .inv ∙ search (needs, first-here)))
     (search needs) (search needs)
-    (λ c. c .before .before .before .loop .inv ∙ search (needs, keeper-more))
-    (λ c. sym (c .before .loop .inv ∙ search (needs, keeper-end))))
+    (λ c. c .before .before .before .loop .inv ∙ search (needs, first-more))
+    (λ c. sym (c .before .loop .inv ∙ search (needs, first-end))))

@@ -7,5 +7,6 @@ use Rattle.lines.proofs.keeps.Tie as tie
 pub keeps-spec : {M : Type 1} → statement M
 keeps-spec =
     tie.close (tie.spec
-    (search needs) (search needs)
+    (search needs)
+    (λ c κs. search needs)
     (λ c. search (needs, keeps-by)))

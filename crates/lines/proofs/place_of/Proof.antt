@@ -1,4 +1,4 @@
--- `place_of` is the remainder: the line count has one bit set.
+-- `place_of` is the remainder: the number of sets has one bit set.
 use mathlib.Core.Path.{refl}
 use native.Mathlib.Omega.{arith}
 use native.Mathlib.Nat.{mod-lt}
@@ -9,7 +9,7 @@ use Rattle.lines.proofs.place_of.Tie as tie
 pub place-of-spec : {M : Type 1} → statement M
 place-of-spec =
     tie.close (tie.spec
-    (λ c. omega (arith, one-bit-lt 64 _ (c .fits .lines .fits) (c .pre)))
-    (λ c. one-bit-lt 64 _ (c .fits .lines .fits) (c .pre))
-    (λ c. rw (one-shl _ (c .fits .lines .fits) (c .pre)) (one-pos _ (c .fits .lines .fits) (c .pre)))
-    (λ c. rw (one-shl _ (c .fits .lines .fits) (c .pre)) (refl, mod-lt _ (one-pos _ (c .fits .lines .fits) (c .pre)))))
+    (λ c. omega (arith, one-bit-lt 64 _ (c .fits .sets .fits) (c .pre)))
+    (λ c. one-bit-lt 64 _ (c .fits .sets .fits) (c .pre))
+    (λ c. rw (one-shl _ (c .fits .sets .fits) (c .pre)) (one-pos _ (c .fits .sets .fits) (c .pre)))
+    (λ c. rw (one-shl _ (c .fits .sets .fits) (c .pre)) (refl, mod-lt _ (one-pos _ (c .fits .sets .fits) (c .pre)))))

@@ -1,21 +1,13 @@
--- `load_and_map` goes by its check.
-use Rattle.machine.specs.Calls.{loadAndMap}
-use Rattle.machine.proofs.Fits.{fit-sized, fit-words, fit-frames, unfit}
-use Rattle.load_call.proofs.Loads.{fill-line, load-refused, load-done}
+-- `load_and_map` lends no matrices, and gets none back.
+use Rattle.machine.proofs.Fits.{no-matrices}
 use borrow.Author.Needs.{needs}
 use Rattle.load_call.proofs.load_and_map.Statement.{statement}
 use Rattle.load_call.proofs.load_and_map.Tie as tie
 
 pub load-and-map-spec : {M : Type 1} → statement M
-unfolding loadAndMap
 load-and-map-spec =
     tie.close (tie.spec
     (search needs)
-    (λ c κs. (search (needs, fit-words), search (needs, fit-frames)))
+    (λ c κs. search needs)
     (search needs) (search needs) (search needs)
-    (λ c κs. (search (needs, fit-sized), search (needs, fill-line)))
-    (search needs) (search needs)
-    (λ c. search (needs, load-refused))
-    (search needs) (search needs) (search needs)
-    (λ c. search (needs, load-done))
-    (λ c. search (needs, unfit)))
+    (λ c. search (needs, no-matrices)))

@@ -9,7 +9,8 @@ use Rattle.look_place.proofs.place_of_line.Tie as tie
 pub place-of-line-spec : {M : Type 1} → statement M
 place-of-line-spec =
     tie.close (tie.spec
-    (search needs) (search needs)
+    (λ c κs. search needs)
+    (search needs)
     (λ c. record { fits = omega (arith, keeper-inside _ _ _ _ _ (c .before .before .before .keeper-of .ensures) (c .before .i .given .1)) })
     (search needs) (search needs) (search needs)
     (λ c. search (needs, place-kept))

@@ -10,6 +10,7 @@ pub oaledva-detach-spec : {M : Type 1} → statement M
 oaledva-detach-spec =
     tie.close (tie.spec
     (search needs)
+    (λ c κs. search needs)
     (λ c κs. let h = c .before .before .detach .ensures noTag in search (needs, detach-small))
     (search needs)
     (λ c tag. let h = c .before .before .before .detach .ensures tag in search (needs, crosses)))

@@ -10,6 +10,7 @@ pub oaledva-flush-all-spec : {M : Type 1} → statement M
 oaledva-flush-all-spec =
     tie.close (tie.spec
     (search needs)
+    (λ c κs. search needs)
     (λ c κs. let h = c .before .before .before .before .flush-all .ensures noTag in search (needs, flush-small))
     (search needs) (search needs)
     (λ c tag. let h = c .before .before .before .before .before .flush-all .ensures tag in search (needs, crosses)))

@@ -10,6 +10,7 @@ pub oaledva-map-spec : {M : Type 1} → statement M
 oaledva-map-spec =
     tie.close (tie.spec
     (search needs)
+    (λ c κs. search needs)
     (λ c κs. let h = c .before .before .before .before .before .before .map .ensures noTag in search (needs, map-small))
     (search needs) (search needs) (search needs)
     (λ c tag. let h = c .before .before .before .before .before .before .before .map .ensures tag in search (needs, crosses)))

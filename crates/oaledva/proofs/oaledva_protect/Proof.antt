@@ -10,6 +10,7 @@ pub oaledva-protect-spec : {M : Type 1} → statement M
 oaledva-protect-spec =
     tie.close (tie.spec
     (search needs)
+    (λ c κs. search needs)
     (λ c κs. let h = c .before .before .before .before .before .before .protect .ensures noTag in search (needs, protect-small))
     (search needs) (search needs) (search needs)
     (λ c tag. let h = c .before .before .before .before .before .before .before .protect .ensures tag in search (needs, crosses)))

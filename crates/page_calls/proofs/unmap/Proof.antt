@@ -22,6 +22,6 @@ unmap-spec =
     (λ c tag.
     let v = c .before .before .before .before .before in
     let d = v .before .before .before .before .before in
-    unmap-done _ _ _ _ _ _ tag _ (d .before .before .before .before .before .fits2 .ensures) (d .before .before .before .before .if1 .taken) _ _ _ (d .before .before .page-frame .ensures) _ _ _ _ (d .f .given .1) (v .before .of-unmap .ensures)
+    unmap-done _ _ _ _ _ _ _ tag _ (d .before .before .before .before .before .fits2 .ensures) (d .before .before .before .before .if1 .taken) _ _ _ (d .before .before .page-frame .ensures) _ _ _ _ (d .f .given .1) (v .before .of-unmap .ensures)
     (v .visit-names .ensures) (c .numbered2 .ensures))
     (λ c tag. search (needs, unfit)))

@@ -9,7 +9,7 @@ use Rattle.record_steps.proofs.flush_line.Tie as tie
 pub flush-line-spec : {M : Type 1} → statement M
 flush-line-spec =
     tie.close (tie.spec
-    (search needs)
+    (λ c κs. search needs)
     (λ c κs. omega (arith, holds-inside _ _ _ _ (c .before .before .before .holds .ensures) (c .before .before .if1 .taken)))
     (search needs)
     (λ c. search (needs, flushed-now, memory-now))

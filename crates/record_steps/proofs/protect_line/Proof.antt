@@ -7,6 +7,6 @@ use Rattle.record_steps.proofs.protect_line.Tie as tie
 pub protect-line-spec : {M : Type 1} → statement M
 protect-line-spec =
     tie.close (tie.spec
-    (search needs)
+    (λ c κs. search needs)
     (λ c. search (needs, permitted-now))
     (λ c. search (needs, permitted-not)))

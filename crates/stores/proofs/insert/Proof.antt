@@ -7,5 +7,6 @@ use Rattle.stores.proofs.insert.Tie as tie
 pub insert-spec : {M : Type 1} → statement M
 insert-spec =
     tie.close (tie.spec
-    (search needs) (search needs) (search needs) (search needs) (search needs) (search needs)
+    (λ c κs. search needs)
+    (search needs) (search needs) (search needs) (search needs) (search needs)
     (λ c. (search (needs, inserted-by), search needs)))

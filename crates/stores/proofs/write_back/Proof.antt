@@ -9,7 +9,8 @@ use Rattle.stores.proofs.write_back.Tie as tie
 pub write-back-spec : {M : Type 1} → statement M
 write-back-spec =
     tie.close (tie.spec
-    (search needs) (search needs)
+    (search needs)
+    (λ c κs. search needs)
     (λ c κs. omega (arith, holds-inside _ _ _ _ (c .before .before .before .holds .ensures) (c .before .before .if1 .taken)))
     (search needs)
     (λ c. (search (needs, written-now), search (needs, writes-now)))

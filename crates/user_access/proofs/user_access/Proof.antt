@@ -9,6 +9,6 @@ user-access-spec =
     tie.close (tie.spec
     (search needs)
     (λ c κs. search (needs, user-fit))
-    (search needs) (search needs) (search needs) (search needs)
+    (search needs) (search needs) (search needs) (search needs) (search needs)
     (λ c. search needs)
     (λ c. search (needs, user-unfit)))

@@ -11,5 +11,5 @@ one-access-spec =
     (search needs)
     (λ c κs. search needs)
     (λ c κs. search (needs, user-small))
-    (search needs) (search needs) (search needs)
+    (search needs) (search needs) (search needs) (search needs)
     (λ c. search (needs, one-crosses)))

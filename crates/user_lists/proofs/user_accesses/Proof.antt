@@ -11,7 +11,7 @@ user-accesses-spec =
     (λ c κs. search needs)
     (search needs)
     (λ c κs. (search (needs, user-fit), search (needs, list-taken)))
-    (search needs) (search needs) (search needs) (search needs) (search needs)
+    (search needs) (search needs) (search needs) (search needs) (search needs) (search needs)
     (λ c. search (needs, list-is-done))
     (search needs)
     (λ c. search (needs, list-unlike))

@@ -7,7 +7,14 @@ use Rattle.visits.proofs.treat.Tie as tie
 pub treat-spec : {M : Type 1} → statement M
 treat-spec =
     tie.close (tie.spec
-    (search needs) (search needs) (search needs) (search needs) (search needs) (search needs) (search needs) (search needs)
+    (search needs)
+    (λ c κs. search needs)
+    (search needs)
+    (λ c κs. search needs)
+    (λ c κs. search needs)
+    (search needs)
+    (λ c κs. search needs)
+    (search needs)
     (λ c. search (needs, treated-drop))
     (search needs) (search needs)
     (λ c. search (needs, treated-retire))

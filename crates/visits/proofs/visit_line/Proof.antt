@@ -7,7 +7,11 @@ use Rattle.visits.proofs.visit_line.Tie as tie
 pub visit-line-spec : {M : Type 1} → statement M
 visit-line-spec =
     tie.close (tie.spec
-    (search needs) (search needs) (search needs) (search needs) (search needs) (search needs)
+    (λ c κs. search needs)
+    (λ c κs. search needs)
+    (λ c κs. search needs)
+    (λ c κs. search needs)
+    (search needs) (search needs)
     (λ c. search (needs, visited-treated))
     (search needs)
     (λ c. search (needs, visited-none))

@@ -1,27 +1,25 @@
--- The lowest number of a range that passes a test. The searches for the record of a name, for the record of a physical line
--- and for the frame of a page are all this one, so their laws are these.
-use Prim.Native.Nat.{ℕ, zero, suc, _+_, _≤_, _<_}
+-- The lowest number of a range that passes a test: the searches for the record of a name, of a physical line or of a set, and for the frame of a page are
+-- all this one, so their laws are these. A loop that searches goes by the last three.
+use Prim.Native.Nat.{ℕ, zero, suc, _+_, _-_, _≤_, _<_}
 use mathlib.Core.Logic.{_≢_}
 use mathlib.Core.Path.{_≡_, refl}
 use mathlib.Core.Bool.{Bool, true, false, cond}
+use native.Mathlib.Numerals.{add-one}
 use native.Mathlib.Omega.{arith}
 use lib.Dec.{eqb}
 use borrow.Author.Tests.{eqb-true, eqb-false}
-use Rattle.board.specs.declared.Found.{Found}
+use Rattle.board.specs.Searches.{first}
 use Rattle.board.specs.declared.Found.the-variants.{At, Nothing}
-
--- the lowest of the n numbers from i on that passes
-unfoldable pub first : (ℕ → Bool) → ℕ → ℕ → Found
-first test i zero = Nothing
-first test i (suc n) = cond (test i) (At i) (first test (suc i) n)
+use Rattle.board.proofs.Bools.{clash}
 
 pub record First (test : ℕ → Bool) (i n j : ℕ) : Type 0 where
   pub from : i ≤ j
   pub to : j < i + n
   pub passes : test j ≡ true
+  pub lowest : (k : ℕ) → i ≤ k → test k ≡ true → j ≤ k
 
 module _ (test : ℕ → Bool) where
-  -- what is found is in the range and passes
+  -- what is found is in the range and passes, and nothing lower of it does
   pub first-at : (i n j : ℕ) → first test i n ≡ At j → First test i n j
   unfolding first
   first-at i zero j h = absurd (let z : _≡_ {A = ℕ} 0 1 = cc in omega arith)
@@ -31,10 +29,15 @@ module _ (test : ℕ → Bool) where
           → First test i (suc n) j
       go true t h later =
           let a : i ≡ j = cc in
-          rw (← a) record { from = omega arith; to = omega arith; passes = t }
+          rw (← a) record { from = omega arith; to = omega arith; passes = t; lowest = λ k b p. b }
       go false t h later =
           let r = later h in
-          record { from = omega arith; to = omega arith; passes = r .passes }
+          record {
+            from = omega arith;
+            to = omega arith;
+            passes = r .passes;
+            lowest = λ k b p. let d : k ≢ i = λ q. clash (test i) (rw q at p) t in r .lowest k (omega arith) p;
+          }
 
   -- where nothing is found, nothing in the range passes
   pub first-nothing : (i n j : ℕ) → first test i n ≡ Nothing → i ≤ j → j < i + n → test j ≡ false
@@ -66,3 +69,34 @@ module _ (test other : ℕ → Bool) where
       go true u t v h later = let q : i ≡ f = eqb-true i f t in rw (q, y)
       go false true t v h later = let z : i ≡ f = cc in absurd (eqb-false i f t z)
       go false false t v h later = rw (e i (eqb-false i f t), v) (later h)
+
+-- a search of one number
+pub first-one : (test : ℕ → Bool) (i : ℕ) → first test i 1 ≡ cond (test i) (At i) Nothing
+unfolding first
+first-one test i = refl
+
+-- ---- the search up to `end`, from number i on
+
+module _ (test : ℕ → Bool) (end i : ℕ) where
+  pub first-here : (t : Bool) → t ≡ test i → t ≡ true → i < end → first test i (end - i) ≡ At i
+  unfolding first
+  first-here t e h k =
+      let z : end - i ≡ suc (end - (i + 1)) = omega arith in
+      rw (z, ← e, h)
+
+  pub first-more : (t : Bool) → t ≡ test i → t ≡ false → i < end → first test i (end - i) ≡ first test (i + 1) (end - (i + 1))
+  unfolding first
+  first-more t e h k =
+      let z : end - i ≡ suc (end - (i + 1)) = omega arith in
+      rw (z, ← e, h, add-one)
+
+  pub first-start : (n : ℕ) → end ≡ i + n → first test i n ≡ first test i (end - i)
+  first-start n e =
+      let z : end - i ≡ n = omega arith in
+      rw z
+
+  pub first-end : end ≤ i → first test i (end - i) ≡ Nothing
+  unfolding first
+  first-end h =
+      let z : end - i ≡ zero = omega arith in
+      rw z

@@ -1,14 +1,14 @@
--- `drop_tag` asks its rows in their order.
+-- `drop_tag_with` asks its rows in their order.
 use Rattle.machine.specs.Calls.{dropTag}
 use Rattle.machine.proofs.Fits.{unfit}
 use Rattle.tag_calls.proofs.Tags.{drop-done, drop-empty}
 use borrow.Author.Needs.{needs}
-use Rattle.tag_calls.proofs.drop_tag.Statement.{statement}
-use Rattle.tag_calls.proofs.drop_tag.Tie as tie
+use Rattle.tag_calls.proofs.drop_tag_with.Statement.{statement}
+use Rattle.tag_calls.proofs.drop_tag_with.Tie as tie
 
-pub drop-tag-spec : {M : Type 1} → statement M
+pub drop-tag-with-spec : {M : Type 1} → statement M
 unfolding dropTag
-drop-tag-spec =
+drop-tag-with-spec =
     tie.close (tie.spec
     (search needs) (search needs)
     (λ c. search (needs, drop-done))

@@ -1,0 +1,8 @@
+pub mod Uses
+pub mod Held
+pub mod LinesUsed
+pub mod Victims
+pub mod LastUses
+pub mod InStep
+pub mod Editions
+pub mod SetExamples

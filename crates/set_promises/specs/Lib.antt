@@ -1,0 +1,4 @@
+pub mod LastUses
+pub mod Uses
+pub mod Editions
+pub mod SetExamples
