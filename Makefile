@@ -15,18 +15,14 @@ replay:
 	@echo 'target/bin/replay LOG'
 
 # The static library, proved: target/lib/liboaledva.a. The toolchain writes an archive for each crate that exports: user access,
-# lists of it, logs, the other calls. Their pieces go into one, each as it is. On another processor than x86-64, AR names an ar for
-# x86-64.
+# lists of it and the other calls, for a cache with one place for each line and for one with sets of four; and logs. Their pieces
+# go into one, each as it is. On another processor than x86-64, AR names an ar for x86-64.
+PIECES = oaledva oaledva_user oaledva_list oaledva_sets oaledva_sets_user oaledva_sets_list oaledva_log
 library:
-	rt staticlib oaledva
-	rt staticlib oaledva_user
-	rt staticlib oaledva_list
-	rt staticlib oaledva_log
+	set -e; for piece in $(PIECES); do rt staticlib $$piece; done
 	@mkdir -p target/lib
 	@rm -f target/lib/liboaledva.a
-	@printf '%s\n' 'create target/lib/liboaledva.a' 'addlib target/staticlib/liboaledva.a' \
-	    'addlib target/staticlib/liboaledva_user.a' 'addlib target/staticlib/liboaledva_list.a' \
-	    'addlib target/staticlib/liboaledva_log.a' save end | $(AR) -M
+	@printf '%s\n' 'create target/lib/liboaledva.a' $(PIECES:%='addlib target/staticlib/lib%.a') save end | $(AR) -M
 	@echo 'target/lib/liboaledva.a has every call'
 
 # Header, library and a file for pkg-config, below PREFIX (and that below DESTDIR, if it is set).

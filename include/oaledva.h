@@ -5,8 +5,9 @@
  *
  * Most programs keep their board in an oaledva_board and use the functions oaledva_board_... at the end of this file. The
  * functions before those take each number and each buffer by itself, for programs that hold the buffers elsewhere; what a
- * call does, and by which numbers it is refused, is said there. One call takes no board: oaledva_entry_of_page. Last come logs
- * of calls, written and read in pieces, which take no board either.
+ * call does, and by which numbers it is refused, is said there. One call takes no board: oaledva_entry_of_page. Then come logs
+ * of calls, written and read in pieces, which take no board either. Last comes a second edition of the cache, with sets of
+ * four: the same calls, on boards where two busy lines of one place need not push each other out.
  *
  * What is proved of each call, for whatever numbers and buffer lengths the caller brings: on the language's own machine it
  * ends, it takes no step outside the buffers that it is lent, and the answer, the buffers and the tag after it are those that
@@ -27,8 +28,8 @@
  *     Calls on different boards may run at the same time, and so may different readers;
  *   - the types of their own below (oaledva_answer and the like) are passed and returned as the numbers in them: one number
  *     as that number is, the two of oaledva_pending one after the other on the stack, because the six arguments that go in
- *     registers come before it. An array of oaledva_answer or oaledva_log_entry is one of uint64_t, and one of oaledva_access
- *     of uint32_t. So it is on x86-64 Linux, in C and in C++;
+ *     registers come before it. An array of oaledva_answer or oaledva_log_entry is one of uint64_t, one of oaledva_access of
+ *     uint32_t, and one of oaledva_uses of uint8_t. So it is on x86-64 Linux, in C and in C++;
  *   - the stack has room (see above), and the compiler, the linker and the processor do as they should.
  *
  * What is promised of a run of calls from a fresh board (docs/PROMISES.md: the answers of a machine without a cache, and one
@@ -475,12 +476,14 @@ typedef struct oaledva_board {
  * every file that includes it has a board of its own. */
 #define OALEDVA_STATIC_FRAMES_MAX 262144
 #define OALEDVA_STATIC_BOARD(b, F, U, P, L)                                                                        \
-    OALEDVA_ASSERT(b##_numbers, OALEDVA_KEEPS_LIMITS(F, U, P, L), "the board's four numbers are out of limits");   \
-    OALEDVA_ASSERT(b##_frames, (F) <= OALEDVA_STATIC_FRAMES_MAX, "too many frames for a static board");            \
-    static uint32_t b##_slots[OALEDVA_SLOTS(P)];                                                                   \
-    static uint64_t b##_words[OALEDVA_WORDS(F)], b##_records[OALEDVA_RECORDS(L)];                                  \
-    static uint8_t b##_cache[OALEDVA_CACHE(L)], b##_memory[OALEDVA_MEMORY(F)];                                     \
+    OALEDVA_STATIC_BUFFERS(b##_, F, U, P, L);                                                                      \
     static oaledva_board b = OALEDVA_BOARD(F, U, P, L, b##_slots, b##_words, b##_records, b##_cache, b##_memory)
+#define OALEDVA_STATIC_BUFFERS(of, F, U, P, L)                                                                     \
+    OALEDVA_ASSERT(of##numbers, OALEDVA_KEEPS_LIMITS(F, U, P, L), "the board's four numbers are out of limits");   \
+    OALEDVA_ASSERT(of##frames, (F) <= OALEDVA_STATIC_FRAMES_MAX, "too many frames for a static board");            \
+    static uint32_t of##slots[OALEDVA_SLOTS(P)];                                                                   \
+    static uint64_t of##words[OALEDVA_WORDS(F)], of##records[OALEDVA_RECORDS(L)];                                  \
+    static uint8_t of##cache[OALEDVA_CACHE(L)], of##memory[OALEDVA_MEMORY(F)]
 
 /* ---- in a block of memory: how many bytes the block must have; 0 where a number is out of its limits. */
 OALEDVA_MUST_USE static inline size_t oaledva_board_bytes(size_t frames, size_t uncached, size_t processes, size_t lines) {
@@ -565,13 +568,17 @@ OALEDVA_MUST_USE static inline oaledva_access oaledva_store_access(
 }
 
 /* Here the lengths count accesses and answers: they are equal, or the list is refused by 1. */
+static inline size_t oaledva_accesses_words(size_t accesses_length) {
+    /* No list is so long that its words can't be counted. Such a length is refused: one word is not five for each answer. */
+    return accesses_length <= SIZE_MAX / OALEDVA_ACCESS_WORDS ? OALEDVA_ACCESS_WORDS * accesses_length : 1;
+}
+
 OALEDVA_MUST_USE static inline oaledva_answer oaledva_board_accesses(
     oaledva_board *b, const oaledva_access *accesses, size_t accesses_length, oaledva_answer *answers,
     size_t answers_length) {
-    /* No list is so long that its words can't be counted. Such a length is refused: one word is not five for each answer. */
-    const size_t words = accesses_length <= SIZE_MAX / OALEDVA_ACCESS_WORDS ? OALEDVA_ACCESS_WORDS * accesses_length : 1;
     /* An access is five of uint32_t without gaps, so an array of them is read as the words it consists of. */
-    return oaledva_user_accesses(OALEDVA_LEND(*b), b->tag, (const uint32_t *)accesses, words, answers, answers_length);
+    return oaledva_user_accesses(OALEDVA_LEND(*b), b->tag, (const uint32_t *)accesses,
+                                 oaledva_accesses_words(accesses_length), answers, answers_length);
 }
 
 /* A supervisor's, by global address. */
@@ -917,43 +924,335 @@ OALEDVA_MUST_USE static inline uint64_t oaledva_log_reader_place(const oaledva_l
     return oaledva_log_place(reader->state, OALEDVA_LOG_STATE_WORDS);
 }
 
-/* ---- making a call of a log, on a board of its header's numbers: does what the function over a board of that name does. An
- * entry that no reader gives as a call is refused by 1, and nothing is done: the header, a kind that is none, a field that is
- * too large. (Fields that a kind does not have are not asked.) */
-OALEDVA_MUST_USE static inline oaledva_answer oaledva_board_perform(oaledva_board *b, oaledva_log_entry call) {
-    const oaledva_answer refused = {(uint64_t)OALEDVA_SHAPE << OALEDVA_NUMBER_AT};
+/* ---- making a call of a log, on a board of its header's numbers: oaledva_board_perform does what the function over a board of
+ * that name does. An entry that no reader gives as a call is refused by 1, and nothing is done: the header, a kind that is none,
+ * a field that is too large. (Fields that a kind does not have are not asked.) */
+static inline int oaledva_log_fits(oaledva_log_entry call) {
     const uint64_t *const of = call.fields;
     switch (call.kind) {
-    case OALEDVA_LOG_USER_ACCESS: {
-        const oaledva_kind kind = {of[1] != 0};
-        if (of[1] > 1 || of[2] > UINT32_MAX || of[3] > UINT32_MAX || of[4] > (of[1] == 0 ? 0 : UINT32_MAX)) return refused;
-        return oaledva_user_access(OALEDVA_LEND(*b), b->tag, of[0], kind, (uint32_t)of[2], (uint32_t)of[3], (uint32_t)of[4]);
+    case OALEDVA_LOG_USER_ACCESS:
+        return of[1] <= 1 && of[2] <= UINT32_MAX && of[3] <= UINT32_MAX && of[4] <= (of[1] == 0 ? 0 : UINT32_MAX);
+    case OALEDVA_LOG_SUPERVISOR_ACCESS: return of[0] <= 1 && of[1] <= UINT32_MAX && of[3] <= (of[0] == 0 ? 0 : UINT32_MAX);
+    case OALEDVA_LOG_ATTACH: return of[3] <= 1;
+    case OALEDVA_LOG_MAP: return of[2] <= 1;
+    case OALEDVA_LOG_PROTECT: return of[1] <= 1;
     }
-    case OALEDVA_LOG_SUPERVISOR_ACCESS: {
-        const oaledva_kind kind = {of[0] != 0};
-        if (of[0] > 1 || of[1] > UINT32_MAX || of[3] > (of[0] == 0 ? 0 : UINT32_MAX)) return refused;
-        return oaledva_supervisor_access(OALEDVA_LEND(*b), b->tag, kind, (uint32_t)of[1], of[2], (uint32_t)of[3]);
-    }
-    case OALEDVA_LOG_ATTACH: {
-        const oaledva_permission permission = {of[3] != 0};
-        return of[3] > 1 ? refused : oaledva_board_attach(b, of[0], of[1], of[2], permission);
-    }
-    case OALEDVA_LOG_DETACH: return oaledva_board_detach(b, of[0], of[1]);
-    case OALEDVA_LOG_MAP: {
-        const oaledva_permission permission = {of[2] != 0};
-        return of[2] > 1 ? refused : oaledva_board_map(b, of[0], of[1], permission);
-    }
-    case OALEDVA_LOG_UNMAP: return oaledva_board_unmap(b, of[0]);
-    case OALEDVA_LOG_PROTECT: {
-        const oaledva_permission permission = {of[1] != 0};
-        return of[1] > 1 ? refused : oaledva_board_protect(b, of[0], permission);
-    }
-    case OALEDVA_LOG_FLUSH_ALL: return oaledva_board_flush_all(b);
-    case OALEDVA_LOG_TAG: return oaledva_board_tag(b, of[0]);
-    case OALEDVA_LOG_LOAD_AND_MAP: return oaledva_board_load_and_map(b, of[0]);
-    case OALEDVA_LOG_DROP_TAG: return oaledva_board_drop_tag(b);
-    }
-    return refused;
+    return 1;
+}
+
+static inline oaledva_permission oaledva_log_permission(uint64_t write_bit) {
+    const oaledva_permission permission = {write_bit != 0};
+    return permission;
+}
+
+/* The body of a function that makes the call by those whose names begin with `board`. */
+#define OALEDVA_PERFORM(board, b, call)                                                                            \
+    const uint64_t *const of = (call).fields;                                                                      \
+    const oaledva_answer refused = {(uint64_t)OALEDVA_SHAPE << OALEDVA_NUMBER_AT};                                 \
+    if (!oaledva_log_fits(call)) return refused;                                                                   \
+    switch ((call).kind) {                                                                                         \
+    case OALEDVA_LOG_USER_ACCESS:                                                                                  \
+        return of[1] == 0 ? board##_load(b, of[0], (uint32_t)of[2], of[3])                                         \
+                          : board##_store(b, of[0], (uint32_t)of[2], of[3], (uint32_t)of[4]);                      \
+    case OALEDVA_LOG_SUPERVISOR_ACCESS:                                                                            \
+        return of[0] == 0 ? board##_supervisor_load(b, (uint32_t)of[1], of[2])                                     \
+                          : board##_supervisor_store(b, (uint32_t)of[1], of[2], (uint32_t)of[3]);                  \
+    case OALEDVA_LOG_ATTACH: return board##_attach(b, of[0], of[1], of[2], oaledva_log_permission(of[3]));         \
+    case OALEDVA_LOG_DETACH: return board##_detach(b, of[0], of[1]);                                               \
+    case OALEDVA_LOG_MAP: return board##_map(b, of[0], of[1], oaledva_log_permission(of[2]));                      \
+    case OALEDVA_LOG_UNMAP: return board##_unmap(b, of[0]);                                                        \
+    case OALEDVA_LOG_PROTECT: return board##_protect(b, of[0], oaledva_log_permission(of[1]));                     \
+    case OALEDVA_LOG_FLUSH_ALL: return board##_flush_all(b);                                                       \
+    case OALEDVA_LOG_TAG: return board##_tag(b, of[0]);                                                            \
+    case OALEDVA_LOG_LOAD_AND_MAP: return board##_load_and_map(b, of[0]);                                          \
+    case OALEDVA_LOG_DROP_TAG: return board##_drop_tag(b);                                                         \
+    }                                                                                                              \
+    return refused
+
+OALEDVA_MUST_USE static inline oaledva_answer oaledva_board_perform(oaledva_board *b, oaledva_log_entry call) {
+    OALEDVA_PERFORM(oaledva_board, b, call);
+}
+
+/* ==== sets of four: the second edition of the cache
+ * In the edition above a line has one place, record name mod L (its name is its global address / 16), and a line that comes
+ * pushes out the one that it finds there. So two busy pages may push each other out at every access, whatever stands in the
+ * rest of the cache. Here the L lines form L / 4 sets of four. A line belongs to set name mod (L / 4) and may stand in any of
+ * its records, 4 * set to 4 * set + 3: a record holds a line only where it is valid, stands in its line's set and has its
+ * physical line in memory. A line that comes takes the lowest of them that holds nothing; where all four hold lines, it pushes
+ * out the one whose last use is longest ago.
+ *
+ * Choose this edition where busy lines share places: where many accesses have marks 2 and 3 though there are lines enough. An
+ * access asks up to four records here, and writes down the use. Numbers, values and the bytes that look shows do not depend on
+ * the choice: the same calls get the same on fresh boards of both editions that have the same shape and memory. The marks may
+ * differ, and so may what stands in records, cache and memory.
+ *
+ * One buffer more keeps who was used after whom: `uses`, a matrix of four by four for each set. Line a of a set is the one in
+ * record 4 * set + a. A use is an access that the cache has done (not one under prefix 0), or the insertion of a line by
+ * load-and-map. A use of line a sets row a to 1 and then clears column a to 0. So after[a][b] is 1 where line a was used after
+ * line b, and of four lines that were used the one used longest ago has a row of zeros. The line that is pushed out is the
+ * lowest whose row has the fewest ones, where any entry but 0 is a one; so it is also with matrices that no run of calls brings
+ * about. Nothing else changes a matrix: no refused call, no drop (by map, unmap or flush all), no write-back, no protect, no
+ * look, and no load-and-map of a line that is held already. Only accesses, lists of them and load-and-map take it to change it.
+ *
+ * Each call has the name of the one above with `sets` in it, takes the same arguments, with `uses` and its length after memory,
+ * does what is said there and is refused by the same numbers. Number 1 is given also where L is below 4, or where uses_length,
+ * which counts matrices, is not L / 4. Map, unmap and protect visit the four records of each set where there they visit one.
+ * oaledva_entry_of_page and the logs are the same for both.
+ *
+ * An edition belongs to the board, as U does. The buffers do not tell which it is, and calls of the other edition are not
+ * refused: they look for lines elsewhere, and what was stored can be lost. The two kinds of board are types of their own, so
+ * that neither is taken for the other. To go over from one edition to the other, flush all by the first, then begin the second
+ * with the same buffers and all matrices 0. */
+#define OALEDVA_SET_LINES 4
+
+/* Of the four lines of a set, who was used after whom: after[a][b] is 1 where line a was used after line b. */
+typedef struct oaledva_uses {
+    uint8_t after[4][4];
+} oaledva_uses;
+OALEDVA_ASSERT(oaledva_uses_layout, sizeof(oaledva_uses) == OALEDVA_SET_LINES * OALEDVA_SET_LINES,
+               "oaledva_uses must be sixteen bytes without gaps");
+
+/* Its length: a matrix for each set. On a fresh board all of them are 0. */
+#define OALEDVA_USES(L) (OALEDVA_SIZE(L) / OALEDVA_SET_LINES)
+
+/* Whether the four numbers keep the limits of this edition. */
+#define OALEDVA_SETS_KEEPS_LIMITS(F, U, P, L)                                                                      \
+    (OALEDVA_KEEPS_LIMITS(F, U, P, L) && OALEDVA_SIZE(L) >= OALEDVA_SET_LINES)
+
+/* ---- each number and each buffer by itself: the shape and the six buffers first, in this order. */
+OALEDVA_MUST_USE oaledva_answer oaledva_sets_user_access(
+    OALEDVA_SHAPE_ARGS,
+    const uint32_t *slots, size_t slots_length, const uint64_t *words, size_t words_length,
+    uint64_t *records, size_t records_length, uint8_t *cache, size_t cache_length,
+    uint8_t *memory, size_t memory_length, oaledva_uses *uses, size_t uses_length,
+    oaledva_pending tag,
+    size_t process, oaledva_kind kind, uint32_t width, uint32_t address, uint32_t value);
+
+OALEDVA_MUST_USE oaledva_answer oaledva_sets_user_accesses(
+    OALEDVA_SHAPE_ARGS,
+    const uint32_t *slots, size_t slots_length, const uint64_t *words, size_t words_length,
+    uint64_t *records, size_t records_length, uint8_t *cache, size_t cache_length,
+    uint8_t *memory, size_t memory_length, oaledva_uses *uses, size_t uses_length,
+    oaledva_pending tag,
+    const uint32_t *accesses, size_t accesses_length, oaledva_answer *answers, size_t answers_length);
+
+OALEDVA_MUST_USE oaledva_answer oaledva_sets_supervisor_access(
+    OALEDVA_SHAPE_ARGS,
+    const uint32_t *slots, size_t slots_length, const uint64_t *words, size_t words_length,
+    uint64_t *records, size_t records_length, uint8_t *cache, size_t cache_length,
+    uint8_t *memory, size_t memory_length, oaledva_uses *uses, size_t uses_length,
+    oaledva_pending tag,
+    oaledva_kind kind, uint32_t width, uint64_t address, uint32_t value);
+
+OALEDVA_MUST_USE oaledva_answer oaledva_sets_attach(
+    OALEDVA_SHAPE_ARGS,
+    uint32_t *slots, size_t slots_length, const uint64_t *words, size_t words_length,
+    const uint64_t *records, size_t records_length, const uint8_t *cache, size_t cache_length,
+    const uint8_t *memory, size_t memory_length, const oaledva_uses *uses, size_t uses_length,
+    size_t process, size_t slot, uint64_t segment, oaledva_permission permission);
+
+OALEDVA_MUST_USE oaledva_answer oaledva_sets_detach(
+    OALEDVA_SHAPE_ARGS,
+    uint32_t *slots, size_t slots_length, const uint64_t *words, size_t words_length,
+    const uint64_t *records, size_t records_length, const uint8_t *cache, size_t cache_length,
+    const uint8_t *memory, size_t memory_length, const oaledva_uses *uses, size_t uses_length,
+    size_t process, size_t slot);
+
+OALEDVA_MUST_USE oaledva_answer oaledva_sets_map(
+    OALEDVA_SHAPE_ARGS,
+    const uint32_t *slots, size_t slots_length, uint64_t *words, size_t words_length,
+    uint64_t *records, size_t records_length, const uint8_t *cache, size_t cache_length,
+    uint8_t *memory, size_t memory_length, const oaledva_uses *uses, size_t uses_length,
+    uint64_t page, size_t frame, oaledva_permission permission);
+
+OALEDVA_MUST_USE oaledva_answer oaledva_sets_unmap(
+    OALEDVA_SHAPE_ARGS,
+    const uint32_t *slots, size_t slots_length, uint64_t *words, size_t words_length,
+    uint64_t *records, size_t records_length, const uint8_t *cache, size_t cache_length,
+    uint8_t *memory, size_t memory_length, const oaledva_uses *uses, size_t uses_length,
+    uint64_t page);
+
+OALEDVA_MUST_USE oaledva_answer oaledva_sets_protect(
+    OALEDVA_SHAPE_ARGS,
+    const uint32_t *slots, size_t slots_length, uint64_t *words, size_t words_length,
+    uint64_t *records, size_t records_length, const uint8_t *cache, size_t cache_length,
+    uint8_t *memory, size_t memory_length, const oaledva_uses *uses, size_t uses_length,
+    uint64_t page, oaledva_permission permission);
+
+OALEDVA_MUST_USE oaledva_answer oaledva_sets_flush_all(
+    OALEDVA_SHAPE_ARGS,
+    const uint32_t *slots, size_t slots_length, const uint64_t *words, size_t words_length,
+    uint64_t *records, size_t records_length, const uint8_t *cache, size_t cache_length,
+    uint8_t *memory, size_t memory_length, const oaledva_uses *uses, size_t uses_length);
+
+OALEDVA_MUST_USE oaledva_answer oaledva_sets_tag(
+    OALEDVA_SHAPE_ARGS,
+    const uint32_t *slots, size_t slots_length, const uint64_t *words, size_t words_length,
+    const uint64_t *records, size_t records_length, const uint8_t *cache, size_t cache_length,
+    const uint8_t *memory, size_t memory_length, const oaledva_uses *uses, size_t uses_length,
+    uint32_t *set, uint64_t *name,
+    uint64_t line_name);
+
+OALEDVA_MUST_USE oaledva_answer oaledva_sets_load_and_map(
+    OALEDVA_SHAPE_ARGS,
+    const uint32_t *slots, size_t slots_length, const uint64_t *words, size_t words_length,
+    uint64_t *records, size_t records_length, uint8_t *cache, size_t cache_length,
+    uint8_t *memory, size_t memory_length, oaledva_uses *uses, size_t uses_length,
+    uint32_t *set, uint64_t *name,
+    size_t physical_line);
+
+OALEDVA_MUST_USE oaledva_answer oaledva_sets_drop_tag(
+    OALEDVA_SHAPE_ARGS,
+    const uint32_t *slots, size_t slots_length, const uint64_t *words, size_t words_length,
+    const uint64_t *records, size_t records_length, const uint8_t *cache, size_t cache_length,
+    const uint8_t *memory, size_t memory_length, const oaledva_uses *uses, size_t uses_length,
+    uint32_t *set, uint64_t *name);
+
+OALEDVA_MUST_USE oaledva_place oaledva_sets_look(
+    OALEDVA_SHAPE_ARGS,
+    const uint32_t *slots, size_t slots_length, const uint64_t *words, size_t words_length,
+    const uint64_t *records, size_t records_length, const uint8_t *cache, size_t cache_length,
+    const uint8_t *memory, size_t memory_length, const oaledva_uses *uses, size_t uses_length,
+    size_t physical_line);
+
+OALEDVA_MUST_USE oaledva_looked oaledva_sets_look_number(
+    OALEDVA_SHAPE_ARGS,
+    const uint32_t *slots, size_t slots_length, const uint64_t *words, size_t words_length,
+    const uint64_t *records, size_t records_length, const uint8_t *cache, size_t cache_length,
+    const uint8_t *memory, size_t memory_length, const oaledva_uses *uses, size_t uses_length,
+    size_t physical_line);
+
+/* ---- a board of this edition in one place: what the other has, and the matrices. b.common.memory is its memory, b.common.tag
+ * its tag. The functions oaledva_board_... are not for `common`. */
+typedef struct oaledva_sets_board {
+    oaledva_board common;
+    oaledva_uses *uses;
+    size_t uses_length;
+} oaledva_sets_board;
+
+/* The sixteen arguments that every call takes first here, and the tag's two. */
+#define OALEDVA_SETS_LEND(b) OALEDVA_LEND((b).common), (b).uses, (b).uses_length
+#define OALEDVA_SETS_TAG_OF(b) OALEDVA_TAG_OF((b).common)
+
+/* An initialiser for a board over six arrays, with no tag pending. */
+#define OALEDVA_SETS_BOARD(F, U, P, L, slots, words, records, cache, memory, uses)                                 \
+    {OALEDVA_BOARD(F, U, P, L, slots, words, records, cache, memory), uses, OALEDVA_COUNT(uses)}
+
+/* Declares a fresh board with static buffers, as OALEDVA_STATIC_BOARD does. */
+#define OALEDVA_SETS_STATIC_BOARD(b, F, U, P, L)                                                                   \
+    OALEDVA_ASSERT(b##_sets, OALEDVA_SIZE(L) >= OALEDVA_SET_LINES, "too few lines for sets of four");              \
+    OALEDVA_STATIC_BUFFERS(b##_, F, U, P, L);                                                                      \
+    static oaledva_uses b##_uses[OALEDVA_USES(L)];                                                                 \
+    static oaledva_sets_board b =                                                                                  \
+        OALEDVA_SETS_BOARD(F, U, P, L, b##_slots, b##_words, b##_records, b##_cache, b##_memory, b##_uses)
+
+/* In a block of memory, as in the other edition: how many bytes it must have; the board that stands in a block, from its start
+ * what a block of the other edition has, then the matrices; and a fresh one. */
+OALEDVA_MUST_USE static inline size_t oaledva_sets_board_bytes(size_t frames, size_t uncached, size_t processes, size_t lines) {
+    if (!OALEDVA_SETS_KEEPS_LIMITS(frames, uncached, processes, lines)) return 0;
+    return oaledva_board_bytes(frames, uncached, processes, lines) + sizeof(oaledva_uses) * OALEDVA_USES(lines);
+}
+
+OALEDVA_MUST_USE static inline oaledva_answer oaledva_sets_board_over(
+    oaledva_sets_board *b, size_t frames, size_t uncached, size_t processes, size_t lines, void *block, size_t bytes) {
+    const size_t needed = oaledva_sets_board_bytes(frames, uncached, processes, lines);
+    /* Room for all but the matrices is no room. */
+    const size_t room = needed != 0 && bytes >= needed ? bytes : 0;
+    const oaledva_answer answer = oaledva_board_over(&b->common, frames, uncached, processes, lines, block, room);
+    b->uses = oaledva_done(answer) ? (oaledva_uses *)(b->common.memory + OALEDVA_MEMORY(frames)) : NULL;
+    b->uses_length = oaledva_done(answer) ? OALEDVA_USES(lines) : 0;
+    return answer;
+}
+
+OALEDVA_MUST_USE static inline oaledva_answer oaledva_sets_board_fresh(
+    oaledva_sets_board *b, size_t frames, size_t uncached, size_t processes, size_t lines, void *block, size_t bytes) {
+    const oaledva_answer answer = oaledva_sets_board_over(b, frames, uncached, processes, lines, block, bytes);
+    if (oaledva_done(answer)) memset(block, 0, oaledva_sets_board_bytes(frames, uncached, processes, lines));
+    return answer;
+}
+
+/* The calls on such a board, each as on a board of the other edition. */
+OALEDVA_MUST_USE static inline oaledva_answer oaledva_sets_board_load(
+    oaledva_sets_board *b, size_t process, uint32_t width, uint64_t address) {
+    return oaledva_sets_user_access(
+        OALEDVA_SETS_LEND(*b), b->common.tag, process, OALEDVA_LOAD, width, oaledva_effective(address), 0);
+}
+
+OALEDVA_MUST_USE static inline oaledva_answer oaledva_sets_board_store(
+    oaledva_sets_board *b, size_t process, uint32_t width, uint64_t address, uint32_t value) {
+    return oaledva_sets_user_access(
+        OALEDVA_SETS_LEND(*b), b->common.tag, process, OALEDVA_STORE, width, oaledva_effective(address), value);
+}
+
+OALEDVA_MUST_USE static inline oaledva_answer oaledva_sets_board_accesses(
+    oaledva_sets_board *b, const oaledva_access *accesses, size_t accesses_length, oaledva_answer *answers,
+    size_t answers_length) {
+    return oaledva_sets_user_accesses(OALEDVA_SETS_LEND(*b), b->common.tag, (const uint32_t *)accesses,
+                                      oaledva_accesses_words(accesses_length), answers, answers_length);
+}
+
+OALEDVA_MUST_USE static inline oaledva_answer oaledva_sets_board_supervisor_load(
+    oaledva_sets_board *b, uint32_t width, uint64_t address) {
+    return oaledva_sets_supervisor_access(OALEDVA_SETS_LEND(*b), b->common.tag, OALEDVA_LOAD, width, address, 0);
+}
+
+OALEDVA_MUST_USE static inline oaledva_answer oaledva_sets_board_supervisor_store(
+    oaledva_sets_board *b, uint32_t width, uint64_t address, uint32_t value) {
+    return oaledva_sets_supervisor_access(OALEDVA_SETS_LEND(*b), b->common.tag, OALEDVA_STORE, width, address, value);
+}
+
+OALEDVA_MUST_USE static inline oaledva_answer oaledva_sets_board_attach(
+    oaledva_sets_board *b, size_t process, size_t slot, uint64_t segment, oaledva_permission permission) {
+    return oaledva_sets_attach(OALEDVA_SETS_LEND(*b), process, slot, segment, permission);
+}
+
+OALEDVA_MUST_USE static inline oaledva_answer oaledva_sets_board_detach(
+    oaledva_sets_board *b, size_t process, size_t slot) {
+    return oaledva_sets_detach(OALEDVA_SETS_LEND(*b), process, slot);
+}
+
+OALEDVA_MUST_USE static inline oaledva_answer oaledva_sets_board_map(
+    oaledva_sets_board *b, uint64_t page, size_t frame, oaledva_permission permission) {
+    return oaledva_sets_map(OALEDVA_SETS_LEND(*b), page, frame, permission);
+}
+
+OALEDVA_MUST_USE static inline oaledva_answer oaledva_sets_board_unmap(oaledva_sets_board *b, uint64_t page) {
+    return oaledva_sets_unmap(OALEDVA_SETS_LEND(*b), page);
+}
+
+OALEDVA_MUST_USE static inline oaledva_answer oaledva_sets_board_protect(
+    oaledva_sets_board *b, uint64_t page, oaledva_permission permission) {
+    return oaledva_sets_protect(OALEDVA_SETS_LEND(*b), page, permission);
+}
+
+OALEDVA_MUST_USE static inline oaledva_answer oaledva_sets_board_flush_all(oaledva_sets_board *b) {
+    return oaledva_sets_flush_all(OALEDVA_SETS_LEND(*b));
+}
+
+OALEDVA_MUST_USE static inline oaledva_answer oaledva_sets_board_tag(oaledva_sets_board *b, uint64_t line_name) {
+    return oaledva_sets_tag(OALEDVA_SETS_LEND(*b), OALEDVA_SETS_TAG_OF(*b), line_name);
+}
+
+OALEDVA_MUST_USE static inline oaledva_answer oaledva_sets_board_load_and_map(oaledva_sets_board *b, size_t physical_line) {
+    return oaledva_sets_load_and_map(OALEDVA_SETS_LEND(*b), OALEDVA_SETS_TAG_OF(*b), physical_line);
+}
+
+OALEDVA_MUST_USE static inline oaledva_answer oaledva_sets_board_drop_tag(oaledva_sets_board *b) {
+    return oaledva_sets_drop_tag(OALEDVA_SETS_LEND(*b), OALEDVA_SETS_TAG_OF(*b));
+}
+
+OALEDVA_MUST_USE static inline const uint8_t *oaledva_sets_board_look(const oaledva_sets_board *b, size_t physical_line) {
+    return oaledva_bytes_at(b->common.cache, b->common.memory, oaledva_sets_look(OALEDVA_SETS_LEND(*b), physical_line));
+}
+
+OALEDVA_MUST_USE static inline oaledva_looked oaledva_sets_board_look_number(
+    const oaledva_sets_board *b, size_t physical_line) {
+    return oaledva_sets_look_number(OALEDVA_SETS_LEND(*b), physical_line);
+}
+
+/* A call of a log, which has no edition: it may be made again on either. */
+OALEDVA_MUST_USE static inline oaledva_answer oaledva_sets_board_perform(oaledva_sets_board *b, oaledva_log_entry call) {
+    OALEDVA_PERFORM(oaledva_sets_board, b, call);
 }
 
 #ifdef __cplusplus

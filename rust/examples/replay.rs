@@ -1,6 +1,6 @@
 // Replays a log of calls on a fresh board, as large as the log's header says, and tells what came of it: `replay --help`.
 use oaledva::log::{Call, Calls, Kind, NoMemory, ReadError};
-use oaledva::{Board, Mark, Refusal, Shape};
+use oaledva::{Board, Edition, Mark, Refusal, Shape};
 use std::ffi::{OsStr, OsString};
 use std::fs::File;
 use std::io::{self, BufWriter, IsTerminal, Read, Write};
@@ -9,19 +9,21 @@ use std::process::ExitCode;
 use std::time::{Duration, Instant};
 
 const USAGE: &str = "\
-usage: replay [--rows] [LOG]
+usage: replay [--rows] [--sets] [LOG]
 Makes the calls of a log again, on a fresh board whose memory is zeros, and tells the
 calls by kind, the answers by number, and the marks.
   LOG      the log's file; standard input where it is - or missing
-  --rows   before that, a row for each call: its number in the log, answer, value, mark";
+  --rows   before that, a row for each call: its number in the log, answer, value, mark
+  --sets   on a board with sets of four, and not with one place for each line; a log
+           doesn't say which, and only the marks depend on it";
 
 fn main() -> ExitCode {
-    let (rows, log) = match options(std::env::args_os().skip(1)) {
+    let (rows, edition, log) = match options(std::env::args_os().skip(1)) {
         Ok(Options { help: true, .. }) => {
             println!("{USAGE}");
             return ExitCode::SUCCESS;
         }
-        Ok(Options { rows, log, .. }) => (rows, log),
+        Ok(Options { rows, edition, log, .. }) => (rows, edition, log),
         Err(problem) => {
             eprintln!("replay: {problem}\n{USAGE}");
             return ExitCode::from(2);
@@ -37,7 +39,7 @@ fn main() -> ExitCode {
     let replayed = open(log.as_deref()).map_err(Problem::from).and_then(|file| {
         let length = file.metadata().ok().filter(|about| about.is_file()).map(|about| about.len());
         let progress = told.then(|| Progress::new(&mut stderr, length));
-        replay(file, rows, &mut BufWriter::new(stdout.lock()), progress)
+        replay(file, edition, rows, &mut BufWriter::new(stdout.lock()), progress)
     });
     match replayed {
         Ok(()) => ExitCode::SUCCESS,
@@ -54,6 +56,7 @@ fn main() -> ExitCode {
 pub struct Options {
     pub help: bool,
     pub rows: bool,
+    pub edition: Edition,
     pub log: Option<OsString>,
 }
 
@@ -62,6 +65,7 @@ pub fn options(arguments: impl Iterator<Item = OsString>) -> Result<Options, Str
     for argument in arguments {
         match argument.to_str() {
             Some("--rows") => options.rows = true,
+            Some("--sets") => options.edition = Edition::SetsOfFour,
             Some("--help" | "-h") => options.help = true,
             Some(option) if option.len() > 1 && option.starts_with('-') => {
                 return Err(format!("unknown option '{option}'"));
@@ -117,23 +121,30 @@ impl From<io::Error> for Problem {
 }
 
 /// The rows of all calls, if they are asked for, and the summary. Where the log is refused, those of the calls before.
-pub fn replay(source: impl Read, rows: bool, out: &mut impl Write, progress: Option<Progress>) -> Result<(), Problem> {
+pub fn replay(
+    source: impl Read,
+    edition: Edition,
+    rows: bool,
+    out: &mut impl Write,
+    progress: Option<Progress>,
+) -> Result<(), Problem> {
     if rows {
         writeln!(out, "call answer value mark").map_err(Problem::Output)?;
     }
-    let outcome = replay_calls(source, rows, out, progress);
+    let outcome = replay_calls(source, edition, rows, out, progress);
     out.flush().map_err(Problem::Output)?;
     outcome
 }
 
 fn replay_calls(
     source: impl Read,
+    edition: Edition,
     rows: bool,
     out: &mut impl Write,
     mut progress: Option<Progress>,
 ) -> Result<(), Problem> {
     let mut calls = Calls::of(source).map_err(Problem::Log)?;
-    let mut board = Board::for_replay(calls.shape()).map_err(Problem::Memory)?;
+    let mut board = Board::for_replay_in(edition, calls.shape()).map_err(Problem::Memory)?;
     let mut summary = Summary::default();
     let refused = loop {
         match calls.next() {
@@ -155,7 +166,7 @@ fn replay_calls(
         progress.clear();
     }
     let after = if rows { "\n" } else { "" };
-    write!(out, "{after}{}", summary.words(board.shape())).map_err(Problem::Output)?;
+    write!(out, "{after}{}", summary.words(edition, board.shape())).map_err(Problem::Output)?;
     refused
 }
 
@@ -183,11 +194,13 @@ impl Summary {
         self.answers.iter().sum()
     }
 
-    fn words(&self, shape: Shape) -> String {
+    fn words(&self, edition: Edition, shape: Shape) -> String {
         let Shape { frames, uncached, processes, lines } = shape;
-        let refused = if shape.keeps_limits() { "" } else { ", numbers out of their limits: every call is refused" };
+        let sets = if edition == Edition::SetsOfFour { " in sets of four" } else { "" };
+        let keeps = shape.keeps_limits_in(edition);
+        let refused = if keeps { "" } else { ", numbers out of their limits: every call is refused" };
         let mut words = format!(
-            "{} on a board of {} ({} uncached), {} and {}{refused}\n",
+            "{} on a board of {} ({} uncached), {} and {}{sets}{refused}\n",
             counted(self.calls(), "call"),
             counted(frames as u64, "frame"),
             grouped(uncached as u64),

@@ -5,6 +5,10 @@
 //! array of such numbers, and its accesses read as one of words ([`Access`]). The functions of logs take no board: a reader's
 //! state, pieces of a log and its entries ([`LogEntry`]) are buffers likewise.
 //!
+//! Every call on a board is there twice: for a cache in which a line has one place, and as `oaledva_sets_...` for one with sets of
+//! four, which takes a sixth buffer, `uses`, whose length counts matrices ([`Uses`]). An edition belongs to the board, as U does:
+//! calls of the other are not refused.
+//!
 //! The tag of an access is two numbers: `set`, which is not 0 where a tag is pending, and `name`, its line name.
 //!
 //! # Safety
@@ -255,14 +259,20 @@ impl LogWritten {
     }
 }
 
+/// Of the four lines of a set, who was used after whom: `uses[a][b]` is 1 where line a, the one in record 4 × set + a, was used
+/// after line b. On a fresh board all are 0; any entry but 0 counts as 1. An access done by the cache, or an insertion by
+/// load-and-map, sets the line's row and then clears its column; nothing else changes a matrix.
+pub type Uses = [[u8; 4]; 4];
+
 macro_rules! pointer {
     (read $element:ty) => { *const $element };
     (write $element:ty) => { *mut $element };
 }
 
 macro_rules! calls {
-    ($($(#[$doc:meta])* fn $name:ident(
-        $slots:ident slots, $words:ident words, $records:ident records, $cache:ident cache, $memory:ident memory
+    ($($(#[$doc:meta])* fn $name:ident / $sets:ident(
+        $slots:ident slots, $words:ident words, $records:ident records, $cache:ident cache, $memory:ident memory,
+        $uses:ident uses
         $(, $argument:ident: $kind:ty)*
     ) -> $answer:ty;)*) => {
         #[link(name = "oaledva", kind = "static")]
@@ -284,6 +294,27 @@ macro_rules! calls {
                 memory: pointer!($memory u8),
                 memory_length: usize
                 $(, $argument: $kind)*
+            ) -> $answer;
+
+            #[doc = concat!("[`", stringify!($name), "`] in sets of four.")]
+            pub fn $sets(
+                frames: usize,
+                uncached: usize,
+                processes: usize,
+                lines: usize,
+                slots: pointer!($slots u32),
+                slots_length: usize,
+                words: pointer!($words u64),
+                words_length: usize,
+                records: pointer!($records u64),
+                records_length: usize,
+                cache: pointer!($cache u8),
+                cache_length: usize,
+                memory: pointer!($memory u8),
+                memory_length: usize,
+                uses: pointer!($uses Uses),
+                uses_length: usize
+                $(, $argument: $kind)*
             ) -> $answer;)*
         }
     };
@@ -295,43 +326,61 @@ macro_rules! calls {
 // cache: as bench/accesses measures it, a fifth of the time of a load that hits.
 calls! {
     /// A user's load or store. A load ignores the value; a store's has to fit the width.
-    fn oaledva_user_access(read slots, read words, write records, write cache, write memory,
+    fn oaledva_user_access / oaledva_sets_user_access(
+        read slots, read words, write records, write cache, write memory, write uses,
         set: u32, name: u64, process: usize, kind: Kind, width: u32, address: u32, value: u32) -> Answer;
     /// Many users' accesses, one after another: [`ACCESS_WORDS`] words for each, as an [`Access`] has them, and one answer.
-    fn oaledva_user_accesses(read slots, read words, write records, write cache, write memory,
+    fn oaledva_user_accesses / oaledva_sets_user_accesses(
+        read slots, read words, write records, write cache, write memory, write uses,
         set: u32, name: u64, accesses: *const u32, accesses_length: usize,
         answers: *mut Answer, answers_length: usize) -> Answer;
     /// A supervisor's load or store by global address; the value as a user's.
-    fn oaledva_supervisor_access(read slots, read words, write records, write cache, write memory,
+    fn oaledva_supervisor_access / oaledva_sets_supervisor_access(
+        read slots, read words, write records, write cache, write memory, write uses,
         set: u32, name: u64, kind: Kind, width: u32, address: u64, value: u32) -> Answer;
     /// Attaches a segment to a slot of a process.
-    fn oaledva_attach(write slots, read words, read records, read cache, read memory,
+    fn oaledva_attach / oaledva_sets_attach(
+        write slots, read words, read records, read cache, read memory, read uses,
         process: usize, slot: usize, segment: u64, permission: Permission) -> Answer;
     /// Empties a slot of a process.
-    fn oaledva_detach(write slots, read words, read records, read cache, read memory, process: usize, slot: usize) -> Answer;
+    fn oaledva_detach / oaledva_sets_detach(
+        write slots, read words, read records, read cache, read memory, read uses,
+        process: usize, slot: usize) -> Answer;
     /// Maps a page to a frame.
-    fn oaledva_map(read slots, write words, write records, read cache, write memory,
+    fn oaledva_map / oaledva_sets_map(
+        read slots, write words, write records, read cache, write memory, read uses,
         page: u64, frame: usize, permission: Permission) -> Answer;
     /// Unmaps a page.
-    fn oaledva_unmap(read slots, write words, write records, read cache, write memory, page: u64) -> Answer;
+    fn oaledva_unmap / oaledva_sets_unmap(
+        read slots, write words, write records, read cache, write memory, read uses,
+        page: u64) -> Answer;
     /// Changes a page's write bit.
-    fn oaledva_protect(read slots, write words, write records, read cache, write memory,
+    fn oaledva_protect / oaledva_sets_protect(
+        read slots, write words, write records, read cache, write memory, read uses,
         page: u64, permission: Permission) -> Answer;
     /// Writes back every changed line and drops all.
-    fn oaledva_flush_all(read slots, read words, write records, read cache, write memory) -> Answer;
+    fn oaledva_flush_all / oaledva_sets_flush_all(
+        read slots, read words, write records, read cache, write memory, read uses) -> Answer;
     /// Remembers a line name.
-    fn oaledva_tag(read slots, read words, read records, read cache, read memory,
+    fn oaledva_tag / oaledva_sets_tag(
+        read slots, read words, read records, read cache, read memory, read uses,
         set: *mut u32, name: *mut u64, line_name: u64) -> Answer;
     /// Loads the line of the pending name, and forgets the name.
-    fn oaledva_load_and_map(read slots, read words, write records, write cache, write memory,
+    fn oaledva_load_and_map / oaledva_sets_load_and_map(
+        read slots, read words, write records, write cache, write memory, write uses,
         set: *mut u32, name: *mut u64, physical_line: usize) -> Answer;
     /// Forgets the pending name.
-    fn oaledva_drop_tag(read slots, read words, read records, read cache, read memory,
+    fn oaledva_drop_tag / oaledva_sets_drop_tag(
+        read slots, read words, read records, read cache, read memory, read uses,
         set: *mut u32, name: *mut u64) -> Answer;
     /// Where the current sixteen bytes of a physical line stand.
-    fn oaledva_look(read slots, read words, read records, read cache, read memory, physical_line: usize) -> Place;
+    fn oaledva_look / oaledva_sets_look(
+        read slots, read words, read records, read cache, read memory, read uses,
+        physical_line: usize) -> Place;
     /// The number that look gives: 0, 1 or 2.
-    fn oaledva_look_number(read slots, read words, read records, read cache, read memory, physical_line: usize) -> Looked;
+    fn oaledva_look_number / oaledva_sets_look_number(
+        read slots, read words, read records, read cache, read memory, read uses,
+        physical_line: usize) -> Looked;
 }
 
 #[link(name = "oaledva", kind = "static")]

@@ -3,13 +3,15 @@
 #[cfg(not(all(target_arch = "x86_64", target_os = "linux", target_pointer_width = "64")))]
 compile_error!("the static library is for x86-64 Linux: build with --target x86_64-unknown-linux-gnu");
 
+mod edition;
 pub mod ffi;
 pub mod log;
 mod mark;
 mod numbered;
 mod refusal;
 
-pub use ffi::{Access, Answer};
+pub use edition::Edition;
+pub use ffi::{Access, Answer, Uses};
 use ffi::{Kind, Permission, Stands};
 pub use mark::Mark;
 pub use refusal::Refusal;
@@ -45,6 +47,11 @@ impl Shape {
             && self.lines.is_power_of_two()
     }
 
+    /// Whether they keep those of an edition: in sets of four there are four lines at least.
+    pub fn keeps_limits_in(&self, edition: Edition) -> bool {
+        self.keeps_limits() && (edition == Edition::OnePlace || self.lines >= SET_LINES)
+    }
+
     /// How many slot words such a board has.
     pub const fn slots(&self) -> usize {
         512 * self.processes
@@ -69,56 +76,94 @@ impl Shape {
     pub const fn memory(&self) -> usize {
         4096 * self.frames
     }
+
+    /// How many matrices, in sets of four: one for each set. In the other edition a board has none.
+    pub const fn uses(&self) -> usize {
+        self.lines / SET_LINES
+    }
 }
 
 /// Bytes of a line.
 pub const LINE_BYTES: usize = 16;
 
-/// A board. `Board` alone owns its buffers ([`Board::new`]); [`Lent`] is the same over the caller's own.
+/// Lines of a set, in [`Edition::SetsOfFour`].
+pub const SET_LINES: usize = 4;
+
+/// A board. `Board` alone owns its buffers ([`Board::new`], [`Board::sets_of_four`]); [`Lent`] is the same over the caller's own.
 #[derive(Clone, Debug)]
 pub struct Board<Slots = Vec<u32>, Words = Vec<u64>, Bytes = Vec<u8>> {
     shape: Shape,
+    edition: Edition,
     slots: Slots,
     words: Words,
     records: Words,
     cache: Bytes,
     memory: Bytes,
+    /// The matrices, as bytes: so a board of either edition is of the same type. In an edition that has none it is empty.
+    uses: Bytes,
     pending: Option<u64>,
     mark: Mark,
 }
 
-/// Boards are equal if their numbers, buffers and tags are: the mark of the last call is no part of the board.
+/// Boards are equal if their editions, numbers, buffers and tags are: the mark of the last call is no part of the board.
 impl<Slots: PartialEq, Words: PartialEq, Bytes: PartialEq> PartialEq for Board<Slots, Words, Bytes> {
     fn eq(&self, other: &Self) -> bool {
-        let numbers = |board: &Self| (board.shape, board.pending);
+        let numbers = |board: &Self| (board.edition, board.shape, board.pending);
         numbers(self) == numbers(other)
             && self.slots == other.slots
             && self.words == other.words
             && self.records == other.records
             && self.cache == other.cache
             && self.memory == other.memory
+            && self.uses == other.uses
     }
 }
 
 impl<Slots: Eq, Words: Eq, Bytes: Eq> Eq for Board<Slots, Words, Bytes> {}
 
-/// A board over buffers that the caller lends: made by [`Lent::over`].
+/// A board over buffers that the caller lends: made by [`Lent::over`] or [`Lent::over_sets_of_four`].
 pub type Lent<'a> = Board<&'a mut [u32], &'a mut [u64], &'a mut [u8]>;
 
 impl Board {
     /// A fresh board, its memory zero. Refused by [`Refusal::Shape`] if a number is out of its limits. As with any vector, the
     /// program ends where there is no memory for it; [`Lent::over`] takes memory of yours, and [`Board::for_replay`] says so.
     pub fn new(shape: Shape) -> Result<Board, Refusal> {
-        if !shape.keeps_limits() {
+        Board::fresh(Edition::OnePlace, shape)
+    }
+
+    /// The same with sets of four, [`Edition::SetsOfFour`]: fewer than 4 lines are out of the limits too. Choose it where busy
+    /// pages push each other out.
+    ///
+    /// ```
+    /// use oaledva::{Board, Refusal, Shape};
+    ///
+    /// let mut board = Board::sets_of_four(Shape { frames: 4, uncached: 1, processes: 2, lines: 256 })?;
+    /// board.attach(0, 0, 2048, true)?;
+    /// for frame in 1..=2 {
+    ///     board.map(0x1FFFFF + frame as u64, frame, true)?; // two pages
+    ///     board.load(0, 4, 4096 * (frame as u32 - 1))?; // the first line of each: 256 lines apart, so of one set
+    /// }
+    /// board.load(0, 4, 0)?;
+    /// assert!(board.hit()); // the second page's line stands beside it
+    /// # Ok::<(), Refusal>(())
+    /// ```
+    pub fn sets_of_four(shape: Shape) -> Result<Board, Refusal> {
+        Board::fresh(Edition::SetsOfFour, shape)
+    }
+
+    fn fresh(edition: Edition, shape: Shape) -> Result<Board, Refusal> {
+        if !shape.keeps_limits_in(edition) {
             return Err(Refusal::Shape);
         }
         Ok(Board {
             shape,
+            edition,
             slots: vec![0; shape.slots()],
             words: vec![0; shape.words()],
             records: vec![0; shape.records()],
             cache: vec![0; shape.cache()],
             memory: vec![0; shape.memory()],
+            uses: vec![0; USES_BYTES * edition.uses(&shape)],
             pending: None,
             mark: Mark::NoAccess,
         })
@@ -142,22 +187,71 @@ impl<'a> Lent<'a> {
         memory: &'a mut [u8],
         pending: Option<u64>,
     ) -> Lent<'a> {
-        Board { shape, slots, words, records, cache, memory, pending, mark: Mark::NoAccess }
+        let (edition, uses) = (Edition::OnePlace, &mut [][..]);
+        Board { shape, edition, slots, words, records, cache, memory, uses, pending, mark: Mark::NoAccess }
+    }
+
+    /// The same with sets of four, [`Edition::SetsOfFour`], and the matrices: one for each set ([`Shape::uses`]), all 0 for a
+    /// fresh board.
+    ///
+    /// ```
+    /// use oaledva::{Lent, Refusal, Shape};
+    ///
+    /// let shape = Shape { frames: 4, uncached: 1, processes: 2, lines: 8 };
+    /// let (mut slots, mut words) = (vec![0; shape.slots()], vec![0; shape.words()]);
+    /// let (mut records, mut cache) = (vec![0; shape.records()], vec![0; shape.cache()]);
+    /// let (mut memory, mut uses) = (vec![0; shape.memory()], vec![[[0; 4]; 4]; shape.uses()]);
+    /// let mut board = Lent::over_sets_of_four(
+    ///     shape, &mut slots, &mut words, &mut records, &mut cache, &mut memory, &mut uses, None,
+    /// );
+    /// for line in 0..2 {
+    ///     board.supervisor_load(4, (1 << 32) + 4096 + 32 * line)?; // under prefix 1: both of set 0
+    /// }
+    /// assert_eq!(uses[0], [[0, 0, 1, 1], [1, 0, 1, 1], [0; 4], [0; 4]]); // line 1 was used after line 0
+    /// # Ok::<(), Refusal>(())
+    /// ```
+    #[allow(clippy::too_many_arguments)] // each buffer by itself
+    pub fn over_sets_of_four(
+        shape: Shape,
+        slots: &'a mut [u32],
+        words: &'a mut [u64],
+        records: &'a mut [u64],
+        cache: &'a mut [u8],
+        memory: &'a mut [u8],
+        uses: &'a mut [Uses],
+        pending: Option<u64>,
+    ) -> Lent<'a> {
+        let (bytes, start) = (std::mem::size_of_val(uses), uses.as_mut_ptr().cast());
+        // Safety: a matrix is so many bytes without gaps; they are borrowed as the matrices were, and for as long.
+        let uses = unsafe { std::slice::from_raw_parts_mut(start, bytes) };
+        let edition = Edition::SetsOfFour;
+        Board { shape, edition, slots, words, records, cache, memory, uses, pending, mark: Mark::NoAccess }
     }
 }
 
-/// Calls a function of [`ffi`] on the shape and the five buffers of a board, then the arguments. `as_ptr` is for calls that
-/// change nothing, `as_mut_ptr` for the others.
+const USES_BYTES: usize = std::mem::size_of::<Uses>();
+
+/// Calls a function of [`ffi`] on the shape and the buffers of a board, then the arguments: the first on a board where a line has
+/// one place, the second on one with sets of four. `as_ptr` is for calls that change nothing, `as_mut_ptr` for the others.
 macro_rules! call {
-    ($board:ident, $pointer:ident, $name:ident($($argument:expr),*)) => {{
+    ($board:ident, $pointer:ident, $one_place:ident / $sets:ident($($argument:expr),*)) => {
+        match $board.edition {
+            Edition::OnePlace => call!(@ $board, $pointer, $one_place $(, $argument)*),
+            Edition::SetsOfFour => {
+                let uses = $board.uses.len() / USES_BYTES;
+                call!(@ $board, $pointer, $sets, $board.uses.$pointer().cast::<Uses>(), uses $(, $argument)*)
+            }
+        }
+    };
+    (@ $board:ident, $pointer:ident, $name:ident $(, $argument:expr)*) => {{
         let (slots, words, records) = ($board.slots.len(), $board.words.len(), $board.records.len());
         let (cache, memory) = ($board.cache.len(), $board.memory.len());
-        // Safety: the buffers are those of `Board::new` or `Lent::over` (the fields are private): vectors or slices, so they
-        // are valid and aligned, and a length doesn't change from one line to the next. Those that a call may write are
-        // borrowed mutably through the board, so they are apart from all else. The tag's two words, where a call may write
-        // them, are locals of the method. The accesses and answers of a list are slices of its caller: the answers are borrowed
-        // mutably beside the board, so they too are apart from all else, and each access is so many words without gaps, whose
-        // number fits because the slice's bytes do.
+        // Safety: the buffers are those of `Board`'s makers or `Lent`'s (the fields are private): vectors or slices, so they
+        // are valid and aligned, and a length doesn't change from one line to the next; a matrix is so many bytes, of no
+        // alignment. Those that a call may write are borrowed mutably through the board, so they are apart from all else. The
+        // tag's two words, where a call may write them, are locals of the method. The accesses and answers of a list are slices
+        // of its caller: the answers are borrowed mutably beside the board, so they too are apart from all else, and each
+        // access is so many words without gaps, whose number fits because the slice's bytes do.
         unsafe {
             ffi::$name(
                 $board.shape.frames,
@@ -246,7 +340,8 @@ where
         let answer = call!(
             self,
             as_mut_ptr,
-            oaledva_user_accesses(set, name, accesses.as_ptr().cast(), words, answers.as_mut_ptr(), room)
+            oaledva_user_accesses
+                / oaledva_sets_user_accesses(set, name, accesses.as_ptr().cast(), words, answers.as_mut_ptr(), room)
         );
         self.answer(answer).map(drop)
     }
@@ -263,64 +358,68 @@ where
 
     /// Attaches a segment to a slot of a process; replaces what was there.
     pub fn attach(&mut self, process: usize, slot: usize, segment: u64, write: bool) -> Result<(), Refusal> {
-        let answer = call!(self, as_mut_ptr, oaledva_attach(process, slot, segment, permission(write)));
+        let answer =
+            call!(self, as_mut_ptr, oaledva_attach / oaledva_sets_attach(process, slot, segment, permission(write)));
         self.answer(answer).map(drop)
     }
 
     /// Empties a slot of a process; an empty one stays empty.
     pub fn detach(&mut self, process: usize, slot: usize) -> Result<(), Refusal> {
-        let answer = call!(self, as_mut_ptr, oaledva_detach(process, slot));
+        let answer = call!(self, as_mut_ptr, oaledva_detach / oaledva_sets_detach(process, slot));
         self.answer(answer).map(drop)
     }
 
-    /// Maps a page to a frame, which is filled with zeros. At most 512 of the cache's records are visited, however many it has.
+    /// Maps a page to a frame, which is filled with zeros. At most 512 of the cache's records are visited, however many it has;
+    /// in sets of four, 512 of its sets.
     pub fn map(&mut self, page: u64, frame: usize, write: bool) -> Result<(), Refusal> {
-        let answer = call!(self, as_mut_ptr, oaledva_map(page, frame, permission(write)));
+        let answer = call!(self, as_mut_ptr, oaledva_map / oaledva_sets_map(page, frame, permission(write)));
         self.answer(answer).map(drop)
     }
 
-    /// Unmaps a page: its changed lines are written back, its lines dropped, its frame freed. At most 256 records are visited.
+    /// Unmaps a page: its changed lines are written back, its lines dropped, its frame freed. At most 256 records are visited, or
+    /// sets.
     pub fn unmap(&mut self, page: u64) -> Result<(), Refusal> {
-        let answer = call!(self, as_mut_ptr, oaledva_unmap(page));
+        let answer = call!(self, as_mut_ptr, oaledva_unmap / oaledva_sets_unmap(page));
         self.answer(answer).map(drop)
     }
 
-    /// Changes the write bit of a page and of its held lines. At most 256 records are visited.
+    /// Changes the write bit of a page and of its held lines. At most 256 records are visited, or sets.
     pub fn protect(&mut self, page: u64, write: bool) -> Result<(), Refusal> {
-        let answer = call!(self, as_mut_ptr, oaledva_protect(page, permission(write)));
+        let answer = call!(self, as_mut_ptr, oaledva_protect / oaledva_sets_protect(page, permission(write)));
         self.answer(answer).map(drop)
     }
 
     /// Writes back every changed line and drops all lines. Every record is visited.
     pub fn flush_all(&mut self) -> Result<(), Refusal> {
-        let answer = call!(self, as_mut_ptr, oaledva_flush_all());
+        let answer = call!(self, as_mut_ptr, oaledva_flush_all / oaledva_sets_flush_all());
         self.answer(answer).map(drop)
     }
 
     /// Remembers a line name: the first part of a load in two parts.
     pub fn tag(&mut self, name: u64) -> Result<(), Refusal> {
         let mut tag = self.tag_words();
-        let answer = call!(self, as_mut_ptr, oaledva_tag(&mut tag.0, &mut tag.1, name));
+        let answer = call!(self, as_mut_ptr, oaledva_tag / oaledva_sets_tag(&mut tag.0, &mut tag.1, name));
         self.tagged_answer(answer, tag)
     }
 
     /// Loads the line of the pending name from the physical line to which it is mapped, and forgets the name.
     pub fn load_and_map(&mut self, line: usize) -> Result<(), Refusal> {
         let mut tag = self.tag_words();
-        let answer = call!(self, as_mut_ptr, oaledva_load_and_map(&mut tag.0, &mut tag.1, line));
+        let answer =
+            call!(self, as_mut_ptr, oaledva_load_and_map / oaledva_sets_load_and_map(&mut tag.0, &mut tag.1, line));
         self.tagged_answer(answer, tag)
     }
 
     /// Forgets the pending name.
     pub fn drop_tag(&mut self) -> Result<(), Refusal> {
         let mut tag = self.tag_words();
-        let answer = call!(self, as_mut_ptr, oaledva_drop_tag(&mut tag.0, &mut tag.1));
+        let answer = call!(self, as_mut_ptr, oaledva_drop_tag / oaledva_sets_drop_tag(&mut tag.0, &mut tag.1));
         self.tagged_answer(answer, tag)
     }
 
     /// The current sixteen bytes of a physical line: that part of the cache bytes or of memory itself.
     pub fn look(&self, line: usize) -> Result<&[u8; LINE_BYTES], Refusal> {
-        let (bytes, at) = match call!(self, as_ptr, oaledva_look(line)).stands() {
+        let (bytes, at) = match call!(self, as_ptr, oaledva_look / oaledva_sets_look(line)).stands() {
             Stands::InCache(at) => (&self.cache[..], at),
             Stands::InMemory(at) => (&self.memory[..], at),
             Stands::Nowhere => return Err(Refusal::of(self.look_number(line)).expect("look is refused")),
@@ -330,7 +429,7 @@ where
 
     /// The number of such a look: 0, 1 or 2.
     pub fn look_number(&self, line: usize) -> u32 {
-        call!(self, as_ptr, oaledva_look_number(line)).number
+        call!(self, as_ptr, oaledva_look_number / oaledva_sets_look_number(line)).number
     }
 
     /// The mark of the last call but look: how it went, if it was an access that was done. [`Mark::NoAccess`] before the first
@@ -366,6 +465,11 @@ where
         self.shape
     }
 
+    /// Where a line may stand in its cache.
+    pub fn edition(&self) -> Edition {
+        self.edition
+    }
+
     /// The slot words: segment × 2 + write bit, or 0.
     pub fn slots(&self) -> &[u32] {
         &self.slots
@@ -391,6 +495,16 @@ where
         &self.memory
     }
 
+    /// The matrices of sets of four: of each set, who was used after whom. None in the other edition.
+    pub fn uses(&self) -> &[Uses] {
+        let bytes = &self.uses[..];
+        // Safety: these are the bytes of so many matrices, which have no alignment; they are borrowed as the bytes are.
+        unsafe { std::slice::from_raw_parts(bytes.as_ptr().cast(), bytes.len() / USES_BYTES) }
+    }
+
+    // Inlined, and so is the next: a call for each edition, of some twenty arguments, is more than the compiler inlines by itself,
+    // and a load that hits would take a seventh more instructions.
+    #[inline(always)]
     fn user_access(
         &mut self,
         process: usize,
@@ -400,13 +514,22 @@ where
         value: u32,
     ) -> Result<u32, Refusal> {
         let (set, name) = self.tag_words();
-        let answer = call!(self, as_mut_ptr, oaledva_user_access(set, name, process, kind, width, address, value));
+        let answer = call!(
+            self,
+            as_mut_ptr,
+            oaledva_user_access / oaledva_sets_user_access(set, name, process, kind, width, address, value)
+        );
         self.answer(answer)
     }
 
+    #[inline(always)]
     fn supervisor_access(&mut self, kind: Kind, width: u32, address: u64, value: u32) -> Result<u32, Refusal> {
         let (set, name) = self.tag_words();
-        let answer = call!(self, as_mut_ptr, oaledva_supervisor_access(set, name, kind, width, address, value));
+        let answer = call!(
+            self,
+            as_mut_ptr,
+            oaledva_supervisor_access / oaledva_sets_supervisor_access(set, name, kind, width, address, value)
+        );
         self.answer(answer)
     }
 

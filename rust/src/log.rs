@@ -38,6 +38,10 @@
 //! `cargo run -p oaledva --example replay -- LOG` is such an office: it tells the calls by kind, the refusals by number and the
 //! marks, and with `--rows` each answer.
 //!
+//! A log doesn't say of which [edition](crate::Edition) its board was. Its calls get the same numbers and values in both, and the
+//! same marks in the one in which they were made: [`Board::for_replay`] has one place for each line, and
+//! [`Board::for_replay_in`] takes the edition.
+//!
 //! What is not in a log: [`Board::look`], which changes nothing; and the bytes that memory held at the start. So begin a log
 //! with the board, when its memory is zeros, and store into it by logged calls what it has to hold. A list of accesses
 //! ([`Board::accesses`]) is logged access by access ([`Entry::from`]).
@@ -53,6 +57,8 @@
 //! How a reader takes a log and what a writer makes of an entry is proved of the library's functions: what is written and read
 //! again is the same, wherever the log is cut into pieces ([`Reader`]). This module adds types and words.
 //!
+//! [`Board::for_replay`]: crate::Board::for_replay
+//! [`Board::for_replay_in`]: crate::Board::for_replay_in
 //! [`Board::look`]: crate::Board::look
 //! [`Board::perform`]: crate::Board::perform
 //! [`Board::accesses`]: crate::Board::accesses

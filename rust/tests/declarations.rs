@@ -1,7 +1,8 @@
 // The three texts that declare the library's functions say the same: the Rattle source, the C header and ffi.rs. Names, order,
 // types and what is only read are compared, in one common form: `name: type`, a slice as a pointer and a length. The header
 // and ffi.rs put some numbers into types of their own, which the source doesn't have: there such a type is its number. The
-// header alone has one of two numbers, the tag, which must be passed as these two are. So are the numbers with names compared,
+// header alone has one of two numbers, the tag, which must be passed as these two are, and one of a matrix, which is an array in
+// the others. The calls of both editions are there, and differ in the matrices alone. So are the numbers with names compared,
 // refusals and marks, and of logs kinds and reasons, with their words; how an answer, an entry and what writing gives are packed;
 // and how many words an access, an entry of a log and a reader's state are.
 use std::collections::BTreeMap;
@@ -40,11 +41,11 @@ fn of_rattle(source: &str) -> Functions {
         let common = list(parameters).into_iter().flat_map(|parameter| {
             let (name, kind) = parameter.split_once(": ").unwrap();
             let pointer = if kind.starts_with("&mut ") { "*mut" } else { "*const" };
-            let element = kind.trim_start_matches("&mut ").trim_start_matches('&').trim_matches(['[', ']']);
-            match (kind.starts_with('&'), kind.ends_with(']')) {
-                (true, true) => vec![format!("{name}: {pointer} {element}"), format!("{name}_length: usize")],
-                (true, false) => vec![format!("{name}: {pointer} {element}")],
-                _ => vec![parameter.clone()],
+            let lent = kind.trim_start_matches("&mut ").trim_start_matches('&');
+            match lent.strip_prefix('[').and_then(|rest| rest.strip_suffix(']')) {
+                _ if !kind.starts_with('&') => vec![parameter.clone()],
+                Some(element) => vec![format!("{name}: {pointer} {element}"), format!("{name}_length: usize")],
+                None => vec![format!("{name}: {pointer} {lent}")],
             }
         });
         functions.insert(name.into(), (common.collect(), result.trim().into()));
@@ -97,9 +98,11 @@ fn types_of_c(header: &str) -> Types {
         let fields = body.split(';').map(str::trim).filter(|field| !field.is_empty());
         fields
             .map(|field| field.split_once(' ').unwrap())
-            .map(|(kind, name)| match name.strip_suffix(']').and_then(|name| name.split_once('[')) {
-                Some((name, length)) => format!("{name}: [{}; {length}]", rust_type(kind)),
-                None => format!("{name}: {}", rust_type(kind)),
+            .map(|(kind, declared)| {
+                let (name, lengths) = declared.trim_end_matches(']').split_once('[').unwrap_or((declared, ""));
+                let lengths = lengths.rsplit("][").filter(|length| !length.is_empty());
+                let array = |element, length| format!("[{element}; {length}]");
+                format!("{name}: {}", lengths.fold(rust_type(kind), array))
             })
             .collect()
     };
@@ -108,7 +111,8 @@ fn types_of_c(header: &str) -> Types {
     while let Some((declared, after)) = between(rest, "typedef struct ", "}") {
         let (name, body) = declared.trim_start_matches("OALEDVA_MUST_USE_TYPE ").split_once(" {").unwrap();
         // These stay in the header: no function of the library takes or gives one.
-        let own = ["board", "marked", "log_bytes", "log_reader", "log_piece"].map(|own| format!("oaledva_{own}"));
+        let own = ["board", "sets_board", "marked", "log_bytes", "log_reader", "log_piece"]
+            .map(|own| format!("oaledva_{own}"));
         if !own.contains(&name.into()) {
             types.insert(rust_type(name), numbers(body));
         }
@@ -139,23 +143,27 @@ fn types_of_rust(declarations: &str) -> Types {
 fn of_rust(declarations: &str) -> Functions {
     let blocks = declarations.matches("extern \"").count();
     assert_eq!((blocks, declarations.matches("extern \"C\" {\n").count()), (2, 2), "of C, all of them");
-    let (first, _) = between(declarations, "pub fn $name(", "$(, $argument").unwrap();
+    let first = |name: &str| between(declarations, &format!("pub fn {name}("), "$(, $argument").unwrap().0;
     let pointer = |way: &str| between(declarations, &format!("({way} $element:ty) => {{ "), " $element }").unwrap().0;
     let mut functions = Functions::new();
-    // Those of the macro, and those by themselves, which take no board.
-    for (begins, first) in [("    fn ", first), ("    pub fn ", "")] {
+    // Those of the macro, one for each edition, and those by themselves, which take no board.
+    for (begins, firsts) in [("    fn ", vec![first("$name"), first("$sets")]), ("    pub fn ", vec![""])] {
         let mut rest = declarations.split_once("calls! {").unwrap().1;
-        while let Some((name, after)) = between(rest, begins, "(") {
+        while let Some((names, after)) = between(rest, begins, "(") {
             let (parameters, after) = after.split_once(')').unwrap();
             let (result, after) = between(after, "-> ", ";").unwrap();
             let (own, buffers): (Vec<_>, Vec<_>) = list(parameters).into_iter().partition(|part| part.contains(": "));
-            let common = list(first).into_iter().map(|parameter| {
-                let lent = between(&parameter, "pointer!($", ")").and_then(|(of, _)| of.split_once(' '));
-                let Some((buffer, element)) = lent else { return parameter };
-                let way = buffers.iter().find_map(|lent| lent.strip_suffix(&format!(" {buffer}"))).unwrap();
-                format!("{}: {} {element}", parameter.split_once(": ").unwrap().0, pointer(way))
-            });
-            functions.insert(name.into(), (common.chain(own).collect(), result.into()));
+            let names: Vec<&str> = names.split(" / ").collect();
+            assert_eq!(names.len(), firsts.len(), "{names:?}");
+            for (name, first) in names.into_iter().zip(&firsts) {
+                let common = list(first).into_iter().map(|parameter| {
+                    let lent = between(&parameter, "pointer!($", ")").and_then(|(of, _)| of.split_once(' '));
+                    let Some((buffer, element)) = lent else { return parameter };
+                    let way = buffers.iter().find_map(|lent| lent.strip_suffix(&format!(" {buffer}"))).unwrap();
+                    format!("{}: {} {element}", parameter.split_once(": ").unwrap().0, pointer(way))
+                });
+                functions.insert(name.into(), (common.chain(own.clone()).collect(), result.into()));
+            }
             rest = after;
         }
     }
@@ -258,19 +266,21 @@ fn numbered(declarations: &str) -> Numbers {
 
 #[test]
 fn the_source_the_header_and_the_crate_declare_the_same() {
-    let mut source = of_rattle(&text("crates/oaledva/src/lib.rt"));
-    source.extend(of_rattle(&text("crates/oaledva_user/src/lib.rt")));
-    source.extend(of_rattle(&text("crates/oaledva_list/src/lib.rt")));
-    source.extend(of_rattle(&text("crates/oaledva_log/src/lib.rt")));
-    assert_eq!(source.len(), 19);
+    let mut source = Functions::new();
+    for piece in ["", "_user", "_list", "_log", "_sets", "_sets_user", "_sets_list"] {
+        source.extend(of_rattle(&text(&format!("crates/oaledva{piece}/src/lib.rt"))));
+    }
+    assert_eq!(source.len(), 19 + 14);
     let (header, crates) = (text("include/oaledva.h"), text("rust/src/ffi.rs"));
     let types = types_of_c(&header);
     assert_eq!(
-        types.keys().collect::<Vec<_>>(),
-        ["Access", "Answer", "Entry", "Kind", "LogEntry", "LogWritten", "Looked", "Pending", "Permission", "Place"]
+        types.keys().map(String::as_str).collect::<Vec<_>>().join(" "),
+        "Access Answer Entry Kind LogEntry LogWritten Looked Pending Permission Place Uses"
     );
+    assert_eq!(types["Uses"], ["after: [[u8; 4]; 4]"]);
+    assert!(crates.contains("\npub type Uses = [[u8; 4]; 4];\n"));
     let mut shared = types.clone();
-    shared.remove("Pending");
+    shared.retain(|name, _| !["Pending", "Uses"].contains(&name.as_str()));
     assert_eq!(shared, types_of_rust(&crates));
     for kind in ["Answer", "Entry", "LogWritten", "Looked", "Place"] {
         assert!(
@@ -281,6 +291,43 @@ fn the_source_the_header_and_the_crate_declare_the_same() {
     let words = tag_in_numbers(of_c(&header), &types).expect("the tag is two words on the stack");
     assert_eq!(words, of_rust(&crates));
     assert_eq!(in_numbers(words, &types), source);
+}
+
+/// Of each call on a board the second edition has one that takes the matrices after memory, and nothing else that is other. They
+/// are only read but by accesses, lists of them and load-and-map.
+#[test]
+fn the_editions_differ_in_the_matrices_alone() {
+    let functions = of_c(&text("include/oaledva.h"));
+    let (sets, others): (Vec<_>, Vec<_>) =
+        functions.into_iter().partition(|(name, _)| name.starts_with("oaledva_sets_"));
+    let on_boards = others.into_iter().filter(|(_, (parameters, _))| parameters[0] == "frames: usize");
+    let expected: Functions = on_boards
+        .map(|(name, (mut parameters, result))| {
+            let used = name.contains("access") || name == "oaledva_load_and_map";
+            let memory = parameters.iter().position(|parameter| parameter == "memory_length: usize").unwrap();
+            let uses = format!("uses: *{} Uses", if used { "mut" } else { "const" });
+            parameters.splice(memory + 1..memory + 1, [uses, "uses_length: usize".into()]);
+            (name.replacen("oaledva_", "oaledva_sets_", 1), (parameters, result))
+        })
+        .collect();
+    assert_eq!((expected.len(), sets.into_iter().collect::<Functions>()), (14, expected));
+}
+
+/// The header's functions over a board, by their heads: name, parameters and result.
+fn over_boards(header: &str, board: &str) -> Vec<String> {
+    let heads = header.split("OALEDVA_MUST_USE static inline ").skip(1).map(|rest| rest.split(" {").next().unwrap());
+    let words = heads.map(|head| head.split_whitespace().collect::<Vec<_>>().join(" ").replace("( ", "("));
+    let name = |head: &String| head.split('(').next().unwrap().rsplit([' ', '*']).next().unwrap().to_string();
+    words.filter(|head| name(head).starts_with(&format!("{board}_"))).collect()
+}
+
+#[test]
+fn boards_of_both_editions_have_the_same_functions() {
+    let header = text("include/oaledva.h");
+    let one_place = over_boards(&header, "oaledva_board");
+    assert_eq!(one_place.len(), 20);
+    let in_sets: Vec<_> = one_place.iter().map(|head| head.replace("oaledva_board", "oaledva_sets_board")).collect();
+    assert_eq!(over_boards(&header, "oaledva_sets_board"), in_sets);
 }
 
 /// A slice of accesses is lent as one of words: each is so many, and none of them of another width.
@@ -399,7 +446,17 @@ fn a_changed_declaration_shows() {
     let lists = text("crates/oaledva_list/src/lib.rt");
     assert_ne!(of_rattle(&lists), of_rattle(&changed(&lists, "answers: &mut [u64]", "answers: &[u64]")));
     assert_ne!(of_rattle(&lists), of_rattle(&changed(&lists, "accesses: &[u32]", "accesses: &[u64]")));
+    let sets = text("crates/oaledva_sets/src/lib.rt");
+    assert_ne!(of_rattle(&sets), of_rattle(&changed(&sets, "uses: &mut [[[u8; 4]; 4]]", "uses: &[[[u8; 4]; 4]]")));
+    assert_ne!(of_rattle(&sets), of_rattle(&changed(&sets, "uses: &[[[u8; 4]; 4]]", "uses: &[[[u8; 4]; 8]]")));
+    assert_ne!(of_rattle(&sets), of_rattle(&changed(&sets, "uses: &[[[u8; 4]; 4]]", "uses: &[[u8; 4]; 4]")));
     let of_c_changed = |old, new| assert_ne!(of_c(&header), of_c(&changed(&header, old, new)));
+    of_c_changed("const oaledva_uses *uses", "oaledva_uses *uses");
+    of_c_changed("oaledva_uses *uses, size_t uses_length,", "");
+    of_c_changed("oaledva_uses *uses", "uint8_t *uses");
+    let in_sets = |header: &str| over_boards(header, "oaledva_sets_board");
+    let old = "oaledva_sets_board *b, uint64_t page, size_t frame";
+    assert_ne!(in_sets(&header), in_sets(&changed(&header, old, "oaledva_sets_board *b, size_t frame, uint64_t page")));
     of_c_changed("    size_t process, size_t slot, ", "    size_t slot, size_t process, ");
     of_c_changed("ARGS size_t frames, size_t uncached", "ARGS size_t uncached, size_t frames");
     of_c_changed("const uint64_t *words", "uint64_t *words");
@@ -419,6 +476,8 @@ fn a_changed_declaration_shows() {
     assert_ne!(types, types_of_c(&changed(&header, "    uint32_t width;", "    uint64_t width;")));
     assert_ne!(types, types_of_c(&changed(&header, "    uint64_t fields[5];", "    uint64_t fields[6];")));
     assert_ne!(types, types_of_c(&changed(&header, "    uint64_t kind;\n", "")));
+    assert_ne!(types, types_of_c(&changed(&header, "    uint8_t after[4][4];", "    uint8_t after[4][8];")));
+    assert_ne!(types, types_of_c(&changed(&header, "    uint8_t after[4][4];", "    uint8_t after[16];")));
     assert_ne!(defined(&header), defined(&changed(&header, "OALEDVA_ACCESS_WORDS 5", "OALEDVA_ACCESS_WORDS 4")));
     assert_ne!(types_of_c(&header), types_of_c(&changed(&header, "    uint32_t set;", "    uint64_t set;")));
     let tag_changed = |old, new| {
@@ -438,6 +497,9 @@ fn a_changed_declaration_shows() {
     assert_ne!(of_rust(&crates), of_rust(&changed(&crates, "page: u64", "page: u32")));
     assert_ne!(of_rust(&crates), of_rust(&changed(&crates, "set: u32, name: u64", "name: u64, set: u32")));
     assert_ne!(of_rust(&crates), of_rust(&changed(&crates, "write memory", "read memory")));
+    assert_ne!(of_rust(&crates), of_rust(&changed(&crates, "write uses", "read uses")));
+    assert_ne!(of_rust(&crates), of_rust(&changed(&crates, "pointer!($uses Uses)", "pointer!($uses u8)")));
+    assert_ne!(of_rust(&crates), of_rust(&changed(&crates, "/ oaledva_sets_unmap(", "/ oaledva_sets_map(")));
     assert_ne!(of_rust(&crates), of_rust(&changed(&crates, "{ *mut $element }", "{ *const $element }")));
     assert_ne!(of_rust(&crates), of_rust(&changed(&crates, "frames: usize", "uncached: usize")));
     assert_ne!(of_rust(&crates), of_rust(&changed(&crates, "-> Answer", "-> u64")));

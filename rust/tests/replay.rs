@@ -4,8 +4,8 @@
 #[path = "../examples/replay.rs"]
 mod program;
 
-use oaledva::log::{Call, Writer};
-use oaledva::Shape;
+use oaledva::log::{Call, Calls, Writer};
+use oaledva::{Edition, Shape};
 use program::{options, replay, Options, Problem, Progress};
 use std::ffi::OsStr;
 use std::fs;
@@ -16,8 +16,12 @@ const SHAPE: Shape = Shape { frames: 4, uncached: 1, processes: 2, lines: 2 };
 
 /// What it writes to standard output and to standard error.
 fn replayed(log: &[u8], rows: bool) -> (String, String) {
+    replayed_in(Edition::OnePlace, log, rows)
+}
+
+fn replayed_in(edition: Edition, log: &[u8], rows: bool) -> (String, String) {
     let mut out = Vec::new();
-    let problem = replay(log, rows, &mut out, None).err();
+    let problem = replay(log, edition, rows, &mut out, None).err();
     let words = problem.map_or(String::new(), |problem| format!("replay: {}\n", problem.words(None)));
     (String::from_utf8(out).unwrap(), words)
 }
@@ -89,6 +93,63 @@ marks, by number
     assert_eq!(replayed(&log.into_inner(), false), (expected.into(), "".into()));
 }
 
+/// Two lines of one place, in turn: without sets of four they push each other out. Numbers and values are the same.
+#[test]
+fn a_log_is_replayed_in_either_edition() {
+    let mut log = Writer::new(Vec::new(), Shape { lines: 4, ..SHAPE }).unwrap();
+    for call in [
+        Call::Map { page: 0x200000, frame: 1, write: true },
+        Call::Attach { process: 0, slot: 0, segment: 2048, write: true },
+        Call::Store { process: 0, width: 1, address: 0, value: 5 },
+        Call::Store { process: 0, width: 1, address: 64, value: 6 },
+        Call::Load { process: 0, width: 1, address: 0 },
+        Call::Load { process: 0, width: 1, address: 64 },
+    ] {
+        log.write(call).unwrap();
+    }
+    let log = log.into_inner();
+    for (edition, rows, about) in [
+        (Edition::OnePlace, "3 0 0 2\n4 0 0 3\n5 0 5 3\n6 0 6 2", "4 lines"),
+        (Edition::SetsOfFour, "3 0 0 2\n4 0 0 2\n5 0 5 1\n6 0 6 1", "4 lines in sets of four"),
+    ] {
+        let (out, words) = replayed_in(edition, &log, true);
+        let begins = format!(
+            "call answer value mark\n1 0 0 0\n2 0 0 0\n{rows}\n\n6 calls on a board of 4 frames (1 uncached), 2 processes \
+             and {about}\n"
+        );
+        assert!(out.starts_with(&begins) && words.is_empty(), "{out}{words}");
+    }
+    // A log of fewer lines than a set has: every call is refused.
+    let (out, words) = replayed_in(Edition::SetsOfFour, &[4, 1, 2, 2, 8], true);
+    let begins =
+        "call answer value mark\n1 1 0 0\n\n1 call on a board of 4 frames (1 uncached), 2 processes and 2 lines in \
+                  sets of four, numbers out of their limits: every call is refused\n";
+    assert!(out.starts_with(begins) && words.is_empty(), "{out}{words}");
+}
+
+/// But for the marks, and where there are fewer lines than a set has.
+#[test]
+fn the_sample_logs_have_the_same_rows_in_sets_of_four() {
+    let without_marks = |rows: &str| -> Vec<String> {
+        let rows = rows.lines().take_while(|row| !row.is_empty()).map(|row| row.rsplit_once(' ').unwrap().0.into());
+        rows.collect()
+    };
+    let (mut calls, mut refused) = (0, 0);
+    for log in samples() {
+        let bytes = fs::read(&log).unwrap();
+        let (one_place, sets) = (replayed(&bytes, true), replayed_in(Edition::SetsOfFour, &bytes, true));
+        assert_eq!(sets.1, one_place.1, "{log:?}");
+        if Calls::of(&bytes[..]).is_ok_and(|calls| calls.shape().keeps_limits() && calls.shape().lines < 4) {
+            assert!(without_marks(&sets.0).iter().skip(1).all(|row| row.ends_with(" 1 0")), "{log:?}");
+            refused += 1;
+        } else {
+            assert_eq!(without_marks(&sets.0), without_marks(&one_place.0), "{log:?}");
+            calls += without_marks(&sets.0).len() - 1;
+        }
+    }
+    assert!(calls >= 20 && refused >= 20, "{calls} calls, {refused} logs of few lines");
+}
+
 #[test]
 fn a_board_out_of_limits_is_told() {
     let mut log = Writer::new(Vec::new(), Shape { frames: 1, uncached: 1, processes: 1, lines: usize::MAX }).unwrap();
@@ -156,7 +217,7 @@ fn an_output_that_fails_ends_the_replay() {
         }
     }
     for rows in [true, false] {
-        let ended = replay(&[4, 1, 2, 2, 8][..], rows, &mut Closed, None);
+        let ended = replay(&[4, 1, 2, 2, 8][..], Edition::OnePlace, rows, &mut Closed, None);
         assert!(matches!(ended, Err(Problem::Output(error)) if error.kind() == io::ErrorKind::BrokenPipe));
     }
 }
@@ -169,6 +230,9 @@ fn options_are_few() {
     assert_eq!(given(&["a.log"]), Ok(Options { log: log("a.log"), ..Options::default() }));
     assert_eq!(given(&["--rows", "-"]), Ok(Options { rows: true, log: log("-"), ..Options::default() }));
     assert_eq!(given(&["a", "--rows"]), Ok(Options { rows: true, log: log("a"), ..Options::default() }));
+    let sets = Options { edition: Edition::SetsOfFour, log: log("a"), ..Options::default() };
+    assert_eq!((given(&["--sets", "a"]), given(&["a", "--sets"])), (Ok(sets), given(&["--sets", "a"])));
+    assert_eq!(Options::default().edition, Edition::OnePlace);
     assert!(given(&["-h"]).unwrap().help && given(&["--help"]).unwrap().help);
     assert_eq!(given(&["--row"]), Err("unknown option '--row'".into()));
     assert_eq!(given(&["a", "b"]), Err("one log at a time".into()));

@@ -3,6 +3,7 @@
 #include <oaledva.h>
 
 OALEDVA_STATIC_BOARD(b, 4, 1, 2, 2);
+OALEDVA_SETS_STATIC_BOARD(s, 4, 1, 2, 4);
 static oaledva_access list[1];
 static uint32_t words[OALEDVA_ACCESS_WORDS];
 static oaledva_answer answers[1];
@@ -88,4 +89,38 @@ void ignore_all(
     oaledva_log_reader_end(&reader);
     oaledva_log_reader_place(&reader);
     oaledva_board_perform(&b, logged[0]);
+    oaledva_sets_board_bytes(4, 1, 2, 4);
+    oaledva_sets_user_access(OALEDVA_SETS_LEND(s), s.common.tag, 0, OALEDVA_LOAD, 4, 0, 0);
+    oaledva_sets_user_accesses(OALEDVA_SETS_LEND(s), s.common.tag, words, OALEDVA_COUNT(words), answers, 1);
+    oaledva_sets_supervisor_access(OALEDVA_SETS_LEND(s), s.common.tag, OALEDVA_LOAD, 4, 0, 0);
+    oaledva_sets_attach(OALEDVA_SETS_LEND(s), 0, 0, 2048, OALEDVA_WRITABLE);
+    oaledva_sets_detach(OALEDVA_SETS_LEND(s), 0, 0);
+    oaledva_sets_map(OALEDVA_SETS_LEND(s), 0x200000, 1, OALEDVA_WRITABLE);
+    oaledva_sets_unmap(OALEDVA_SETS_LEND(s), 0x200000);
+    oaledva_sets_protect(OALEDVA_SETS_LEND(s), 0x200000, OALEDVA_READ_ONLY);
+    oaledva_sets_flush_all(OALEDVA_SETS_LEND(s));
+    oaledva_sets_tag(OALEDVA_SETS_LEND(s), OALEDVA_SETS_TAG_OF(s), 0x20000000);
+    oaledva_sets_load_and_map(OALEDVA_SETS_LEND(s), OALEDVA_SETS_TAG_OF(s), 256);
+    oaledva_sets_drop_tag(OALEDVA_SETS_LEND(s), OALEDVA_SETS_TAG_OF(s));
+    oaledva_sets_look(OALEDVA_SETS_LEND(s), 256);
+    oaledva_sets_look_number(OALEDVA_SETS_LEND(s), 256);
+    oaledva_sets_board_over(&s, 4, 1, 2, 4, block, 0);
+    oaledva_sets_board_fresh(&s, 4, 1, 2, 4, block, 0);
+    oaledva_sets_board_load(&s, 0, 4, 0);
+    oaledva_sets_board_store(&s, 0, 4, 0, 50);
+    oaledva_sets_board_accesses(&s, list, 1, answers, 1);
+    oaledva_sets_board_supervisor_load(&s, 4, 0);
+    oaledva_sets_board_supervisor_store(&s, 4, 0, 50);
+    oaledva_sets_board_attach(&s, 0, 0, 2048, OALEDVA_WRITABLE);
+    oaledva_sets_board_detach(&s, 0, 0);
+    oaledva_sets_board_map(&s, 0x200000, 1, OALEDVA_WRITABLE);
+    oaledva_sets_board_unmap(&s, 0x200000);
+    oaledva_sets_board_protect(&s, 0x200000, OALEDVA_READ_ONLY);
+    oaledva_sets_board_flush_all(&s);
+    oaledva_sets_board_tag(&s, 0x20000000);
+    oaledva_sets_board_load_and_map(&s, 256);
+    oaledva_sets_board_drop_tag(&s);
+    oaledva_sets_board_look(&s, 256);
+    oaledva_sets_board_look_number(&s, 256);
+    oaledva_sets_board_perform(&s, logged[0]);
 }

@@ -347,6 +347,12 @@ static void performed(void) {
     EXPECT(memcmp(b_memory, by_name_memory, sizeof b_memory) == 0 && b.tag.set == 0 && by_name.tag.set == 0);
     /* An address that does not fit 32 bits is refused as by name. */
     EXPECT(gives(oaledva_board_perform(&b, oaledva_load_call(1, 1, PAGE * 4096)), OALEDVA_KERNEL, 0, 0));
+    /* What is read-only in a log is so on the board. */
+    EXPECT(gives(oaledva_board_perform(&b, oaledva_map_call(PAGE, 1, OALEDVA_READ_ONLY)), 0, 0, 0) && b_words[1] % 4 == 1);
+    EXPECT(gives(oaledva_board_perform(&b, oaledva_attach_call(0, 0, 2048, OALEDVA_READ_ONLY)), 0, 0, 0));
+    EXPECT(b_slots[0] == 2048 * 2);
+    EXPECT(gives(oaledva_board_perform(&b, oaledva_protect_call(PAGE, OALEDVA_WRITABLE)), 0, 0, 0) && b_words[1] % 4 == 3);
+    EXPECT(gives(oaledva_board_perform(&b, oaledva_protect_call(PAGE, OALEDVA_READ_ONLY)), 0, 0, 0) && b_words[1] % 4 == 1);
     /* On a board without buffers every call is refused by 1. */
     memset(&b, 0, sizeof b);
     for (size_t i = 0; i < LOG_ENTRIES; i++) EXPECT(gives(oaledva_board_perform(&b, calls[i]), OALEDVA_SHAPE, 0, 0));

@@ -1,7 +1,7 @@
 //! Boards on which logs are replayed.
 
 use super::Call;
-use crate::{Board, Mark, Refusal, Shape};
+use crate::{Board, Edition, Mark, Refusal, Shape, USES_BYTES};
 use std::alloc::{alloc_zeroed, Layout};
 use std::ops::DerefMut;
 
@@ -48,17 +48,25 @@ impl Board {
     /// differences. Where a number is out of its limits it gives a board without buffers, on which every call is refused by
     /// [`Refusal::Shape`], as it was when it was logged. And where there is no memory it says so, and the program goes on.
     pub fn for_replay(shape: Shape) -> Result<Board, NoMemory> {
+        Board::for_replay_in(Edition::OnePlace, shape)
+    }
+
+    /// The same in either edition. A log says nothing of editions: its calls may be made again in both, and get the same numbers
+    /// and values; only the marks may differ. In sets of four, fewer than 4 lines are out of the limits too.
+    pub fn for_replay_in(edition: Edition, shape: Shape) -> Result<Board, NoMemory> {
         let bare = Board {
             shape,
+            edition,
             slots: Vec::new(),
             words: Vec::new(),
             records: Vec::new(),
             cache: Vec::new(),
             memory: Vec::new(),
+            uses: Vec::new(),
             pending: None,
             mark: Mark::NoAccess,
         };
-        if !shape.keeps_limits() {
+        if !shape.keeps_limits_in(edition) {
             return Ok(bare);
         }
         let fresh = || {
@@ -68,17 +76,19 @@ impl Board {
                 records: zeros(shape.records())?,
                 cache: zeros(shape.cache())?,
                 memory: zeros(shape.memory())?,
+                uses: zeros(USES_BYTES * edition.uses(&shape))?,
                 ..bare
             })
         };
-        fresh().ok_or(NoMemory { shape })
+        fresh().ok_or(NoMemory { edition, shape })
     }
 }
 
-/// So many zeros, at least one, as the system has them: it finds the memory for them when they are first touched. `None` where it
-/// has none.
+/// So many zeros, as the system has them: it finds the memory for them when they are first touched. `None` where it has none.
 fn zeros<T: Zero>(length: usize) -> Option<Vec<T>> {
-    assert_ne!(length, 0, "a board that keeps the limits has no empty buffer");
+    if length == 0 {
+        return Some(Vec::new());
+    }
     let layout = Layout::array::<T>(length).ok()?;
     // Safety: the length is not 0, and no such type has size 0.
     let start = unsafe { alloc_zeroed(layout) }.cast::<T>();
@@ -96,6 +106,7 @@ impl Zero for u64 {}
 /// There is no memory for a board that a log asks for.
 #[derive(Clone, Copy, Debug, PartialEq, Eq)]
 pub struct NoMemory {
+    edition: Edition,
     shape: Shape,
 }
 
@@ -104,7 +115,8 @@ impl NoMemory {
     pub fn bytes(&self) -> usize {
         let (shape, word) = (self.shape, std::mem::size_of::<u64>());
         let slots = std::mem::size_of::<u32>() * shape.slots();
-        word * (shape.words() + shape.records()) + slots + shape.cache() + shape.memory()
+        let uses = USES_BYTES * self.edition.uses(&shape);
+        word * (shape.words() + shape.records()) + slots + shape.cache() + shape.memory() + uses
     }
 }
 
