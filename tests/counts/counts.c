@@ -1,23 +1,41 @@
 /* A hundred equal calls of one kind on one board, after what they need: F 64, U 1, P 2, L 16, pages from 0x200000 up mapped to frames 1 to
  * 62. What is listed is one call, with a hundred accesses in its list. tests/counts/run counts the library's instructions. With no argument
- * it writes the kinds; kind `nothing` makes no call at the end. */
+ * it writes the kinds; kind `nothing` makes no call at the end. Compiled with SETS defined, the board has sets of four. */
 #include "oaledva.h"
 #include <stdio.h>
 #include <string.h>
 
 #define PAGE 0x200000ull
 #define CALLS 100
+#define LINES 16
 
-OALEDVA_STATIC_BOARD(b, 64, 1, 2, 16);
+#ifdef SETS
+OALEDVA_SETS_STATIC_BOARD(b, 64, 1, 2, LINES);
+#define LEND OALEDVA_SETS_LEND(b)
+#define TAG b.common.tag
+#define TAG_OF OALEDVA_SETS_TAG_OF(b)
+#define CALL(name) oaledva_sets_##name
+#define SET_LINES OALEDVA_SET_LINES
+#else
+OALEDVA_STATIC_BOARD(b, 64, 1, 2, LINES);
+#define LEND OALEDVA_LEND(b)
+#define TAG b.tag
+#define TAG_OF OALEDVA_TAG_OF(b)
+#define CALL(name) oaledva_##name
+#define SET_LINES 1
+#endif
+
+/* Lines of one page that have one place, by their number in the page: one more than a set has, in turn, so that each pushes another out. */
+#define PUSHING (i % (SET_LINES + 1) * (LINES / SET_LINES))
 
 static uint64_t user(uint32_t store, uint32_t width, uint32_t address) {
     oaledva_kind kind = {store};
-    return oaledva_user_access(OALEDVA_LEND(b), b.tag, 0, kind, width, address, 7).packed;
+    return CALL(user_access)(LEND, TAG, 0, kind, width, address, 7).packed;
 }
 
 static uint64_t supervisor(uint32_t store, uint64_t address) {
     oaledva_kind kind = {store};
-    return oaledva_supervisor_access(OALEDVA_LEND(b), b.tag, kind, 4, address, 7).packed;
+    return CALL(supervisor_access)(LEND, TAG, kind, 4, address, 7).packed;
 }
 
 /* Access i of one list, which is called with the last. */
@@ -28,13 +46,18 @@ static uint64_t listed(uint32_t i, uint32_t store, uint32_t address) {
     list[i] = access;
     if (i < CALLS - 1) return 0;
     const uint32_t *words = (const uint32_t *)list;
-    return oaledva_user_accesses(OALEDVA_LEND(b), b.tag, words, OALEDVA_ACCESS_WORDS * CALLS, answers, CALLS).packed;
+    return CALL(user_accesses)(LEND, TAG, words, OALEDVA_ACCESS_WORDS * CALLS, answers, CALLS).packed;
 }
 
 /* A call by its name, on the board. */
-#define ON_BOARD(call, ...) oaledva_##call(OALEDVA_LEND(b), __VA_ARGS__).packed
+#define ON_BOARD(call, ...) CALL(call)(LEND, __VA_ARGS__).packed
 
-/* Call i of a kind. Two lines of one page that are 256 bytes apart have one place, so they push each other out. */
+/* Call i of a kind. In a set of four a hit may be in any line. */
+#ifdef SETS
+#define KINDS_OF_SETS KIND("user load, hit, four lines in turn", user(0, 4, i % SET_LINES * (LINES / SET_LINES) * 16))
+#else
+#define KINDS_OF_SETS
+#endif
 #define KINDS                                                                                                      \
     KIND("nothing", 0)                                                                                             \
     KIND("user load, hit, width 4", user(0, 4, 0))                                                                 \
@@ -43,8 +66,9 @@ static uint64_t listed(uint32_t i, uint32_t store, uint32_t address) {
     KIND("user store, hit, width 4", user(1, 4, 0))                                                                \
     KIND("user store, hit, width 2", user(1, 2, 0))                                                                \
     KIND("user store, hit, width 1", user(1, 1, 0))                                                                \
-    KIND("user load, miss", user(0, 4, i % 2 * 256))                                                               \
-    KIND("user store, miss with write-back", user(1, 4, i % 2 * 256))                                              \
+    KINDS_OF_SETS                                                                                                  \
+    KIND("user load, miss", user(0, 4, 16 * PUSHING))                                                              \
+    KIND("user store, miss with write-back", user(1, 4, 16 * PUSHING))                                             \
     KIND("user load, 62 pages", user(0, 4, i % 62 * 4096 + i % 16 * 16))                                           \
     KIND("user store, 62 pages", user(1, 4, i % 62 * 4096 + i % 16 * 16))                                          \
     KIND("user load, refused by 4", user(0, 4, 2))                                                                 \
@@ -52,22 +76,22 @@ static uint64_t listed(uint32_t i, uint32_t store, uint32_t address) {
     KIND("user load, refused by 8", user(0, 4, 0x3f0000))                                                          \
     KIND("listed user load, hit, width 4", listed(i, 0, 0))                                                        \
     KIND("listed user store, hit, width 4", listed(i, 1, 0))                                                       \
-    KIND("listed user load, miss", listed(i, 0, i % 2 * 256))                                                      \
+    KIND("listed user load, miss", listed(i, 0, 16 * PUSHING))                                                     \
     KIND("supervisor load, hit", supervisor(0, PAGE * 4096))                                                       \
     KIND("supervisor store, hit", supervisor(1, PAGE * 4096))                                                      \
-    KIND("supervisor load, miss", supervisor(0, PAGE * 4096 + i % 2 * 256))                                        \
-    KIND("supervisor store, miss with write-back", supervisor(1, PAGE * 4096 + i % 2 * 256))                       \
+    KIND("supervisor load, miss", supervisor(0, PAGE * 4096 + 16 * PUSHING))                                       \
+    KIND("supervisor store, miss with write-back", supervisor(1, PAGE * 4096 + 16 * PUSHING))                      \
     KIND("prefix 1 load, hit", supervisor(0, 0x100000000 + 63 * 4096))                                             \
-    KIND("prefix 1 store, miss with write-back", supervisor(1, 0x100000000 + 63 * 4096 + i % 2 * 256))             \
+    KIND("prefix 1 store, miss with write-back", supervisor(1, 0x100000000 + 63 * 4096 + 16 * PUSHING))            \
     KIND("prefix 0 load", supervisor(0, 8))                                                                        \
     KIND("map and unmap", ON_BOARD(map, 0x300000, 63, OALEDVA_WRITABLE) + ON_BOARD(unmap, 0x300000))               \
     KIND("protect", ON_BOARD(protect, PAGE, i % 2 ? OALEDVA_WRITABLE : OALEDVA_READ_ONLY))                         \
-    KIND("flush all", oaledva_flush_all(OALEDVA_LEND(b)).packed)                                                   \
+    KIND("flush all", CALL(flush_all)(LEND).packed)                                                                \
     KIND("tag and load-and-map",                                                                                   \
-         ON_BOARD(tag, OALEDVA_TAG_OF(b), PAGE * 256 + i % 2 * 16)                                                 \
-             + ON_BOARD(load_and_map, OALEDVA_TAG_OF(b), 256 + i % 2 * 16))                                        \
+         ON_BOARD(tag, TAG_OF, PAGE * 256 + PUSHING)                                                               \
+             + ON_BOARD(load_and_map, TAG_OF, 256 + PUSHING))                                                      \
     KIND("attach and detach", ON_BOARD(attach, 1, 3, 2048, OALEDVA_READ_ONLY) + ON_BOARD(detach, 1, 3))            \
-    KIND("look", oaledva_look(OALEDVA_LEND(b), 256).at)
+    KIND("look", CALL(look)(LEND, 256).at)
 
 int main(int words, char **word) {
     if (words < 2) {

@@ -6,19 +6,32 @@
 //! in use (map drops them), a line held under two names, names that no access fills, doubled pages, records that hold nothing
 //! but are valid, slot words outside the range, and number 1.
 
+use crate::coverage::Sort;
 use crate::limits::*;
 use crate::routes::{Manner, Route};
-use crate::sights::inside;
+use crate::sights::{inside, stands};
 use crate::values::Access;
 use model::{
-    frame_of, global_of, kind_of, mapping, name_in_range, name_of, offset_of, page_of_name, place_of, slot_of,
-    slot_read, Board, Call, Event, Kind, Record, Shape,
+    frame_of, global_of, kind_of, mapping, name_in_range, name_of, offset_of, page_of_name, slot_of, slot_read, Board,
+    Call, Edition, Event, Kind, Record, Shape,
 };
 
+/// On which boards a case must be reached: on fresh ones, on wild ones, or on wild ones with sets of four only.
 #[derive(Clone, Copy, Debug, PartialEq, Eq)]
 pub enum Reach {
     Fresh,
     Wild,
+    WildFours,
+}
+
+impl Reach {
+    pub fn is_on(self, sort: Sort) -> bool {
+        match self {
+            Reach::Fresh => sort.fresh,
+            Reach::Wild => !sort.fresh,
+            Reach::WildFours => !sort.fresh && sort.edition == Edition::Fours,
+        }
+    }
 }
 
 macro_rules! cases {
@@ -141,6 +154,13 @@ cases! {
     Wild CacheLong "1 by long cache bytes alone";
     Wild MemoryShort "1 by short memory alone";
     Wild MemoryLong "1 by long memory alone";
+    WildFours LinesBelow1 "1 by L = 1 alone, too few for a set";
+    WildFours LinesBelow2 "1 by L = 2 alone, too few for a set";
+    WildFours UsesNone "1 by no matrices alone";
+    WildFours UsesShort "1 by too few matrices alone";
+    WildFours UsesLong "1 by too many matrices alone";
+    WildFours UsesAsLines "1 by a matrix for each line alone";
+    WildFours UsesAsBytes "1 by a matrix for each byte of them alone";
 }
 
 /// What has to be known of the board before a call to say which cases it was.
@@ -176,8 +196,9 @@ pub enum Before {
 pub struct Line {
     name: u64,
     kind: Kind,
-    /// The record at its place, whether it stands at its own place and has a line in memory, whether it holds a line, and
-    /// whether memory has the bytes of that line already.
+    /// The record with which its access is done: that at its place, or in sets of four the one that holds it, else the victim.
+    /// Whether it stands at its own place and has a line in memory, whether it holds a line, and whether memory has the bytes of
+    /// that line already.
     pub record: Record,
     placed: bool,
     inside: bool,
@@ -189,16 +210,16 @@ pub struct Line {
 
 impl Line {
     fn of(board: &Board, name: u64) -> Line {
-        let place = place_of(name, board.shape.lines);
-        let (record, holds) = (board.record(place), board.held(place).is_some());
+        let at = board.record_for(name);
+        let (record, holds) = (board.record(at), board.held(at).is_some());
         Line {
             name,
             kind: kind_of(name.wrapping_mul(LINE_BYTES) % GLOBAL_END),
             record,
-            placed: place_of(record.name, board.shape.lines) == place,
+            placed: stands(board, record.name, at),
             inside: inside(board, record.line),
             holds,
-            equal: holds && board.cache[line_bytes(place)] == board.memory[line_bytes(record.line)],
+            equal: holds && board.cache[line_bytes(at)] == board.memory[line_bytes(record.line)],
             mapped: mapping(&board.shape, &board.words, page_of_name(name))
                 .map(|(frame, write)| (line_in(frame, name), write)),
         }
@@ -208,13 +229,33 @@ impl Line {
         self.holds && self.record.name == self.name
     }
 
-    /// Whether the record at its place has the physical line from which a miss fills.
+    /// Whether that record has the physical line from which a miss fills.
     pub fn of_this_line(&self) -> bool {
         let home = match self.kind {
             Kind::Cached(physical) => Some(physical / LINE_BYTES),
             _ => self.mapped.map(|(line, _)| line),
         };
         home == Some(self.record.line)
+    }
+}
+
+/// The word of a slot, if there is such a slot.
+fn slot_word(board: &Board, process: u64, slot: u64) -> Option<u32> {
+    let inside = process < board.shape.processes && slot < SLOTS;
+    inside.then(|| board.slots[(process * SLOTS + slot) as usize])
+}
+
+/// The name of the line that an access or a load-and-map is to; none where its slot is none or empty, or its address is none. Asked
+/// only of a board that fits.
+pub fn name_of_call(board: &Board, call: &Call) -> Option<u64> {
+    match *call {
+        Call::UserAccess { process, address, .. } => {
+            let (segment, _) = slot_read(slot_word(board, process, slot_of(address))?)?;
+            Some(name_of(global_of(segment, offset_of(address))))
+        }
+        Call::SupervisorAccess { global, .. } => (global < GLOBAL_END).then(|| name_of(global)),
+        Call::LoadAndMap { .. } => Some(board.tag.1),
+        _ => None,
     }
 }
 
@@ -231,30 +272,14 @@ impl Facts {
         if !board.fits() {
             return Facts::Unfit(cause_of_one(board));
         }
-        let slot_word = |process: u64, slot: u64| {
-            let inside = process < board.shape.processes && slot < SLOTS;
-            inside.then(|| board.slots[(process * SLOTS + slot) as usize])
-        };
-        let before = match *call {
-            Call::UserAccess { process, address, .. } => match slot_word(process, slot_of(address)) {
-                Some(word) => match slot_read(word) {
-                    Some((segment, _)) => {
-                        Before::Line(Line::of(board, name_of(global_of(segment, offset_of(address)))))
-                    }
-                    None => Before::Slot(word),
-                },
-                None => Before::Nothing,
-            },
-            Call::SupervisorAccess { global, .. } if global < GLOBAL_END => {
-                Before::Line(Line::of(board, name_of(global)))
-            }
-            Call::LoadAndMap { .. } => Before::Line(Line::of(board, board.tag.1)),
-            Call::Attach { process, slot, .. } | Call::Detach { process, slot } => {
-                slot_word(process, slot).map_or(Before::Nothing, Before::Slot)
-            }
-            Call::Map { page, frame, .. } => page_facts(board, page, frame),
-            Call::Unmap { page } | Call::Protect { page, .. } => page_facts(board, page, 0),
-            Call::FlushAll => flush_facts(board),
+        let slot_facts = |process, slot| slot_word(board, process, slot).map_or(Before::Nothing, Before::Slot);
+        let before = match (name_of_call(board, call), *call) {
+            (Some(name), _) => Before::Line(Line::of(board, name)),
+            (None, Call::UserAccess { process, address, .. }) => slot_facts(process, slot_of(address)),
+            (None, Call::Attach { process, slot, .. } | Call::Detach { process, slot }) => slot_facts(process, slot),
+            (None, Call::Map { page, frame, .. }) => page_facts(board, page, frame),
+            (None, Call::Unmap { page } | Call::Protect { page, .. }) => page_facts(board, page, 0),
+            (None, Call::FlushAll) => flush_facts(board),
             _ => Before::Nothing,
         };
         Facts::Fit { shape: board.shape, tag: board.tag, before }
@@ -271,16 +296,16 @@ fn page_facts(board: &Board, page: u64, frame: u64) -> Before {
 fn flush_facts(board: &Board) -> Before {
     let mut changed = Vec::new();
     let (mut far, mut stray, mut beyond) = (false, false, false);
-    for place in 0..board.shape.lines {
-        match board.held(place) {
+    for at in board.all_records() {
+        match board.held(at) {
             Some(record) if record.changed => {
                 far |= record.name >= NAMES_END;
                 changed.push(record.line);
             }
             Some(_) => {}
             None => {
-                let record = board.record(place);
-                let at_its_place = place_of(record.name, board.shape.lines) == place;
+                let record = board.record(at);
+                let at_its_place = stands(board, record.name, at);
                 stray |= record.valid && !at_its_place;
                 beyond |= record.valid && at_its_place;
             }
@@ -297,6 +322,7 @@ pub fn cause_of_one(board: &Board) -> Option<Case> {
         return Some(Case::FramesOver);
     }
     let wraps = |factor: u64, count: u64| factor.checked_mul(count).is_none();
+    let fours = board.edition == Edition::Fours;
     let limits = [
         (s.frames == 0, Case::FramesZero),
         (s.uncached > s.frames, Case::UncachedOver),
@@ -307,13 +333,22 @@ pub fn cause_of_one(board: &Board) -> Option<Case> {
         (s.lines <= LINES_MAX && s.lines.count_ones() > 1, Case::LinesNoPower),
         (s.lines == 2 * LINES_MAX, Case::LinesOver),
         (s.lines.count_ones() == 1 && wraps(2, s.lines), Case::LinesWrap),
+        (fours && s.lines == 1, Case::LinesBelow1),
+        (fours && matches!(s.lines, 2 | 3), Case::LinesBelow2),
     ];
+    let too_many = match n.uses {
+        uses if uses == s.lines => Case::UsesAsLines,
+        uses if uses == s.lines.wrapping_mul(4) => Case::UsesAsBytes,
+        _ => Case::UsesLong,
+    };
+    let too_few = if n.uses == 0 { Case::UsesNone } else { Case::UsesShort };
     let lengths = [
         (n.slots, SLOTS.wrapping_mul(s.processes), Case::SlotsShort, Case::SlotsLong),
         (n.words, s.frames, Case::WordsShort, Case::WordsLong),
         (n.records, s.lines.wrapping_mul(2), Case::RecordsShort, Case::RecordsLong),
         (n.cache, LINE_BYTES.wrapping_mul(s.lines), Case::CacheShort, Case::CacheLong),
         (n.memory, PAGE_BYTES * s.frames, Case::MemoryShort, Case::MemoryLong),
+        (n.uses, matrices(board.edition, s.lines), too_few, too_many),
     ];
     let by_limit = limits.iter().filter(|(wrong, _)| *wrong).map(|&(_, case)| case);
     let by_length = lengths
@@ -505,7 +540,8 @@ pub fn manner_cases(board: &Board, call: &Call, manner: &Manner) -> Vec<Case> {
         return Vec::new();
     }
     let n = board.lengths();
-    let empty = [n.slots, n.words, n.records, n.cache, n.memory].contains(&0);
+    let has_uses = board.edition == Edition::Fours;
+    let empty = [n.slots, n.words, n.records, n.cache, n.memory].contains(&0) || has_uses && n.uses == 0;
     let flag = match *call {
         Call::UserAccess { store, .. } | Call::SupervisorAccess { store, .. } => store && manner.route != Route::Board,
         Call::Attach { write, .. } | Call::Map { write, .. } | Call::Protect { write, .. } => write,

@@ -1,19 +1,50 @@
 //! What was reached: each refusal number of each call, each case, each route of each call, each mark of each call by each route,
 //! each call at the limits of P and L, each value at the end of a width beside each number, each sight at a page's places, what
-//! lists meet, and logs; and what must be.
+//! lists meet, what is met in sets of four, and logs; and what must be: in each edition by itself, but for logs.
 
-use crate::cases::{Case, Reach, CASES};
-use crate::limits::{ENTRY_PAGES, LINES_MAX, MARKS, PROCESSES_MAX, VALUES, WIDTHS};
+use crate::cases::{Case, CASES};
+use crate::gen;
+use crate::limits::{set_lines, ENTRY_PAGES, LINES_MAX, MARKS, PROCESSES_MAX, VALUES, WIDTHS};
 use crate::list_runs::CAUSES;
 use crate::lists::{self, Reached, Tally, ENDS, SPOTS};
 use crate::log_sights::Logs;
 use crate::marks::{self, MARKED, OUTCOMES};
 use crate::routes::{Route, ROUTES};
+use crate::sets::{self, By};
 use crate::sights::{Sight, Size, Sweep, SIGHTS, SIZES, SWEEPS};
 use crate::trace::Deed;
 use crate::values::{Tried, ROWS};
-use model::Call;
-use std::fmt::{Arguments, Write};
+use model::{Board, Call, Edition, FRESH_MATRIX};
+use std::fmt::{self, Arguments, Write};
+
+/// The sorts of boards.
+#[derive(Clone, Copy, Debug, PartialEq, Eq)]
+pub struct Sort {
+    pub edition: Edition,
+    pub fresh: bool,
+}
+
+/// The two of an edition stand together, the fresh one first.
+pub const SORTS: [Sort; 4] = [
+    Sort { edition: Edition::Ones, fresh: true },
+    Sort { edition: Edition::Ones, fresh: false },
+    Sort { edition: Edition::Fours, fresh: true },
+    Sort { edition: Edition::Fours, fresh: false },
+];
+
+impl Sort {
+    fn index(self) -> usize {
+        2 * self.edition as usize + usize::from(!self.fresh)
+    }
+}
+
+impl fmt::Display for Sort {
+    fn fmt(&self, f: &mut fmt::Formatter) -> fmt::Result {
+        let board = if self.fresh { "a fresh board" } else { "a wild board" };
+        let sets = if self.edition == Edition::Fours { " with sets of four" } else { "" };
+        write!(f, "{board}{sets}")
+    }
+}
 
 /// The numbers end here.
 const NUMBERS: usize = 14;
@@ -64,20 +95,66 @@ fn row_of(deed: &Deed) -> Option<usize> {
     })
 }
 
-/// A board at a limit of P or L, where every call and every look must be done, or past it, where each must be refused by 1.
+/// A board at a limit of P or L, where every call and every look must be done, or past it, where each must be refused by 1; or one
+/// whose matrices are too few or too many.
 pub struct Edge {
     words: &'static str,
     pub processes: u64,
-    pub lines: u64,
+    pub lines: Lines,
+    /// What is done to the board then.
+    pub edit: fn(&mut Board),
     number: u32,
+    of_fours: bool,
 }
 
-pub const EDGES: [Edge; 4] = [
-    Edge { words: "done with the most processes", processes: PROCESSES_MAX, lines: 4, number: 0 },
-    Edge { words: "refused by 1 for one process too many", processes: PROCESSES_MAX + 1, lines: 4, number: 1 },
-    Edge { words: "done with the most lines", processes: 2, lines: LINES_MAX, number: 0 },
-    Edge { words: "refused by 1 for twice the most lines", processes: 2, lines: 2 * LINES_MAX, number: 1 },
+/// How many lines such a board has.
+#[derive(Clone, Copy)]
+pub enum Lines {
+    Sets(u64),
+    Most,
+    TwiceTheMost,
+}
+
+impl Lines {
+    pub fn in_edition(self, edition: Edition) -> u64 {
+        match self {
+            Lines::Sets(sets) => set_lines(edition) * sets,
+            Lines::Most => LINES_MAX,
+            Lines::TwiceTheMost => 2 * LINES_MAX,
+        }
+    }
+}
+
+const fn edge(words: &'static str, processes: u64, lines: Lines, number: u32) -> Edge {
+    Edge { words, processes, lines, edit: |_| {}, number, of_fours: false }
+}
+
+/// In sets of four only.
+const fn refused(words: &'static str, edit: fn(&mut Board)) -> Edge {
+    Edge { edit, of_fours: true, ..edge(words, 2, Lines::Sets(4), 1) }
+}
+
+pub const EDGES: [Edge; 11] = [
+    edge("done with the most processes", PROCESSES_MAX, Lines::Sets(4), 0),
+    edge("refused by 1 for one process too many", PROCESSES_MAX + 1, Lines::Sets(4), 1),
+    edge("done with the most lines", 2, Lines::Most, 0),
+    edge("refused by 1 for twice the most lines", 2, Lines::TwiceTheMost, 1),
+    edge("done with a single set", 2, Lines::Sets(1), 0),
+    refused("refused by 1 for L = 1", |board| gen::set_lines_to(board, 1)),
+    refused("refused by 1 for L = 2", |board| gen::set_lines_to(board, 2)),
+    refused("refused by 1 for a matrix too few", |board| board.uses.truncate(board.uses.len() - 1)),
+    refused("refused by 1 for a matrix too many", |board| board.uses.push(FRESH_MATRIX)),
+    refused("refused by 1 for no matrices", |board| board.uses.clear()),
+    refused("refused by 1 for a matrix for each line", |board| {
+        board.uses.resize(board.shape.lines as usize, FRESH_MATRIX);
+    }),
 ];
+
+impl Edge {
+    pub fn is_of(&self, edition: Edition) -> bool {
+        !self.of_fours || edition == Edition::Fours
+    }
+}
 
 /// Planned runs, which are counted apart: what else must be reached has to be reached without them.
 #[derive(Clone, Copy)]
@@ -90,6 +167,8 @@ pub enum Planned {
     Places,
     /// Of `list_runs.rs`.
     Lists,
+    /// Of `set_runs.rs`.
+    Sets,
 }
 
 /// Whether this call may give this number.
@@ -106,7 +185,7 @@ pub fn in_table_of_items(number: u32) -> bool {
     number != 1 && KINDS[0].1.contains(&number)
 }
 
-/// Counts of one kind of board, fresh or wild.
+/// Counts of one sort of boards.
 #[derive(Clone)]
 struct Counts {
     numbers: [[u64; NUMBERS]; KINDS.len()],
@@ -122,6 +201,25 @@ struct Counts {
     /// The sweeps by each route, with each of `SIZES`, that met each of `SIGHTS`.
     sights: [[[[u64; SIGHTS.len()]; SIZES.len()]; SWEEPS.len()]; ROUTES.len()],
     lists: [ListCounts; ROUTES.len()],
+    /// What was met in sets of four.
+    sets: [sets::Counts; ROUTES.len()],
+    /// The calls by each route, in random runs.
+    routes: [[u64; KINDS.len()]; ROUTES.len()],
+    pairs: PairCounts,
+    /// Audits of boards, and the looks in them.
+    audits: u64,
+    audit_looks: u64,
+}
+
+/// Pairs of runs, and those in which a mark of the process differed, because the others' accesses did move its lines: a hit in one
+/// run only; a refill in both, with a write-back in one only. And those in which a list with accesses of the process had other
+/// accesses of the others.
+#[derive(Clone, Copy)]
+pub struct PairCounts {
+    pub pairs: u64,
+    pub hit: u64,
+    pub write_back: u64,
+    pub list: u64,
 }
 
 /// Counts of lists, by one route.
@@ -147,77 +245,63 @@ const NONE: Counts = Counts {
     values: [[[[0; VALUES.len()]; WIDTHS.len()]; ROWS.len()]; ROUTES.len()],
     sights: [[[[0; SIGHTS.len()]; SIZES.len()]; SWEEPS.len()]; ROUTES.len()],
     lists: [NO_LISTS; ROUTES.len()],
+    sets: [sets::Counts::NONE; ROUTES.len()],
+    routes: [[0; KINDS.len()]; ROUTES.len()],
+    pairs: PairCounts { pairs: 0, hit: 0, write_back: 0, list: 0 },
+    audits: 0,
+    audit_looks: 0,
 };
 
 #[derive(Clone)]
 pub struct Coverage {
-    fresh: Counts,
-    wild: Counts,
-    routes: [[u64; KINDS.len()]; ROUTES.len()],
+    /// In the order of `SORTS`.
+    sorts: Vec<Counts>,
     pub boards: u64,
     /// The planned runs that are being made, if any are.
     pub planned: Option<Planned>,
-    /// Audits of boards, and the looks in them.
-    pub audits: u64,
-    pub audit_looks: u64,
-    /// Pairs of runs, and those in which a mark of the process differed, because the others' accesses did move its lines: a hit
-    /// in one run only; a refill in both, with a write-back in one only.
-    pub pairs: u64,
-    pub pairs_hit: u64,
-    pub pairs_write_back: u64,
-    /// Those in which a list with accesses of the process had other accesses of the others.
-    pub pairs_list: u64,
     pub logs: Logs,
 }
 
 impl Coverage {
     pub fn new() -> Coverage {
-        let routes = [[0; KINDS.len()]; ROUTES.len()];
-        Coverage {
-            fresh: NONE,
-            wild: NONE,
-            routes,
-            boards: 0,
-            planned: None,
-            audits: 0,
-            audit_looks: 0,
-            pairs: 0,
-            pairs_hit: 0,
-            pairs_write_back: 0,
-            pairs_list: 0,
-            logs: Logs::new(),
-        }
+        Coverage { sorts: vec![NONE; SORTS.len()], boards: 0, planned: None, logs: Logs::new() }
+    }
+
+    fn of(&mut self, sort: Sort) -> &mut Counts {
+        &mut self.sorts[sort.index()]
     }
 
     /// A value that an access tried, in whatever run.
-    pub fn count_value(&mut self, fresh: bool, route: Route, Tried { row, width, value }: Tried) {
-        let counts = if fresh { &mut self.fresh } else { &mut self.wild };
-        counts.values[route as usize][row][width][value] += 1;
+    pub fn count_value(&mut self, sort: Sort, route: Route, Tried { row, width, value }: Tried) {
+        self.of(sort).values[route as usize][row][width][value] += 1;
     }
 
     /// What a call met that was done on a board of so many lines, in whatever run.
-    pub fn count_sights(&mut self, fresh: bool, route: Route, lines: u64, met: &[(Sweep, Vec<Sight>)]) {
-        let counts = if fresh { &mut self.fresh } else { &mut self.wild };
+    pub fn count_sights(&mut self, sort: Sort, route: Route, lines: u64, met: &[(Sweep, Vec<Sight>)]) {
+        let (counts, size) = (self.of(sort), Size::of(sort.edition, lines));
         for (sweep, sights) in met {
             for &sight in sights {
-                counts.sights[route as usize][*sweep as usize][Size::of(lines) as usize][sight as usize] += 1;
+                counts.sights[route as usize][*sweep as usize][size as usize][sight as usize] += 1;
             }
         }
     }
 
+    /// What was met in a set of four, in whatever run; and which change of its matrix it was.
+    pub fn count_set(&mut self, sort: Sort, route: Route, by: By, sights: &[sets::Sight], change: Option<usize>) {
+        self.of(sort).sets[route as usize].count(by, sights, change);
+    }
+
     /// The mark of a call, as the random runs reach it.
-    pub fn count_mark(&mut self, fresh: bool, route: Route, marks::Marked { row, outcome }: marks::Marked) {
+    pub fn count_mark(&mut self, sort: Sort, route: Route, marks::Marked { row, outcome }: marks::Marked) {
         if self.planned.is_none() {
-            let counts = if fresh { &mut self.fresh } else { &mut self.wild };
-            counts.marks[route as usize][row][outcome] += 1;
+            self.of(sort).marks[route as usize][row][outcome] += 1;
         }
     }
 
     /// A list, and what it met in whatever run.
-    pub fn count_list(&mut self, fresh: bool, route: Route, number: u32, tally: &Tally) {
-        self.count_row(fresh, LISTS, route, number);
-        let counts = if fresh { &mut self.fresh } else { &mut self.wild };
-        let counts = &mut counts.lists[route as usize];
+    pub fn count_list(&mut self, sort: Sort, route: Route, number: u32, tally: &Tally) {
+        self.count_row(sort, LISTS, route, number);
+        let counts = &mut self.of(sort).lists[route as usize];
         for &(spot, end) in &tally.ends {
             counts.ends[spot][end] += 1;
         }
@@ -230,30 +314,31 @@ impl Coverage {
     }
 
     /// The number of a call, in a random run or at a limit.
-    fn count_row(&mut self, fresh: bool, row: usize, route: Route, number: u32) {
-        let counts = if fresh { &mut self.fresh } else { &mut self.wild };
-        match self.planned {
+    fn count_row(&mut self, sort: Sort, row: usize, route: Route, number: u32) {
+        let planned = self.planned;
+        let counts = self.of(sort);
+        match planned {
             Some(Planned::Edge(edge)) => {
                 if row < ENTRIES && number == EDGES[edge].number {
                     counts.edges[edge][route as usize][row] += 1;
                 }
             }
-            Some(Planned::Values | Planned::Places | Planned::Lists) => {}
+            Some(Planned::Values | Planned::Places | Planned::Lists | Planned::Sets) => {}
             None => {
                 counts.numbers[row][number as usize] += 1;
-                self.routes[route as usize][row] += 1;
+                counts.routes[route as usize][row] += 1;
             }
         }
     }
 
-    pub fn count(&mut self, fresh: bool, deed: &Deed, route: Route, number: u32, cases: &[Case]) {
+    pub fn count(&mut self, sort: Sort, deed: &Deed, route: Route, number: u32, cases: &[Case]) {
         if let Some(row) = row_of(deed) {
-            self.count_row(fresh, row, route, number);
+            self.count_row(sort, row, route, number);
         }
         if self.planned.is_some() {
             return;
         }
-        let counts = if fresh { &mut self.fresh } else { &mut self.wild };
+        let counts = self.of(sort);
         for &case in cases {
             counts.cases[case as usize] += 1;
         }
@@ -265,15 +350,28 @@ impl Coverage {
     }
 
     /// An audit with so many looks.
-    pub fn count_audit(&mut self, looks: u64) {
+    pub fn count_audit(&mut self, sort: Sort, looks: u64) {
         if self.planned.is_none() {
-            self.audits += 1;
-            self.audit_looks += looks;
+            let counts = self.of(sort);
+            counts.audits += 1;
+            counts.audit_looks += looks;
         }
     }
 
+    /// The pairs of runs in an edition.
+    pub fn pairs(&mut self, edition: Edition) -> &mut PairCounts {
+        &mut self.of(Sort { edition, fresh: true }).pairs
+    }
+
+    /// The audits in an edition, and the looks in them.
+    pub fn audits(&self) -> (u64, u64) {
+        let sum = |count: fn(&Counts) -> u64| self.sorts.iter().map(count).sum();
+        (sum(|counts| counts.audits), sum(|counts| counts.audit_looks))
+    }
+
     fn count_of_rows(&self, rows: std::ops::Range<usize>) -> u64 {
-        rows.map(|row| self.fresh.numbers[row].iter().chain(&self.wild.numbers[row]).sum::<u64>()).sum()
+        let of_row = |row: usize| self.sorts.iter().flat_map(move |counts| counts.numbers[row]).sum::<u64>();
+        rows.map(of_row).sum()
     }
 
     /// The calls of 01, looks and entries not among them.
@@ -293,90 +391,10 @@ impl Coverage {
     /// a fresh board, where numbers and lengths agree, unless a list brings it. All else that a sequence of calls from a fresh
     /// board reaches must be reached on one.
     pub fn each_required(&mut self, mut see: impl FnMut(Arguments, &mut u64)) {
-        for (counts, board) in [(&mut self.fresh, "fresh"), (&mut self.wild, "wild")] {
-            for (row, (counts, (call, table))) in counts.numbers.iter_mut().zip(&KINDS).enumerate() {
-                for (number, count) in counts.iter_mut().enumerate() {
-                    if table.contains(&(number as u32)) && (number != 1 || board == "wild" || row == LISTS) {
-                        see(format_args!("{call}, number {number}, on a {board} board"), count);
-                    }
-                }
-            }
-            for (count, (_, reach, words)) in counts.cases.iter_mut().zip(CASES) {
-                if (*reach == Reach::Fresh) == (board == "fresh") {
-                    see(format_args!("{words}, on a {board} board"), count);
-                }
-            }
-            for (counts, (_, route)) in counts.entries.iter_mut().zip(&ROUTES) {
-                for (count, page) in counts.iter_mut().zip(ENTRY_PAGES) {
-                    see(format_args!("the entry of page {page:#x} by the {route} route, on a {board} board"), count);
-                }
-            }
-            for (counts, (_, route)) in counts.marks.iter_mut().zip(&ROUTES) {
-                for (row, (counts, (call, _))) in counts.iter_mut().zip(&MARKED).enumerate() {
-                    let outcomes = counts.iter_mut().zip(OUTCOMES);
-                    for (count, outcome) in outcomes.filter(|(_, outcome)| outcome.can_be(row, board == "fresh")) {
-                        see(format_args!("{call}: {outcome}, by the {route} route, on a {board} board"), count);
-                    }
-                }
-            }
-            for (counts, Edge { words, .. }) in counts.edges.iter_mut().zip(&EDGES) {
-                for (counts, (_, route)) in counts.iter_mut().zip(&ROUTES) {
-                    for (count, (call, _)) in counts.iter_mut().zip(&KINDS) {
-                        see(format_args!("{call}, {words}, by the {route} route, on a {board} board"), count);
-                    }
-                }
-            }
-            for (counts, (route, name)) in counts.values.iter_mut().zip(ROUTES) {
-                for (counts, row) in counts.iter_mut().zip(&ROWS) {
-                    let widths = counts.iter_mut().zip(WIDTHS);
-                    for (counts, width) in widths.filter(|(_, width)| row.can_be(*width, route, board == "fresh")) {
-                        for (count, value) in counts.iter_mut().zip(VALUES) {
-                            let tried = format_args!("{row}, value {value:#x}, width {width}");
-                            see(format_args!("{tried}, by the {name} route, on a {board} board"), count);
-                        }
-                    }
-                }
-            }
-            for (counts, (_, route)) in counts.sights.iter_mut().zip(&ROUTES) {
-                for (counts, (sweep, call)) in counts.iter_mut().zip(SWEEPS) {
-                    for (counts, (size, lines)) in counts.iter_mut().zip(SIZES) {
-                        let met = counts.iter_mut().zip(SIGHTS);
-                        let required = met.filter(|(_, (_, _, at))| at.has(sweep, size, board == "fresh"));
-                        for (count, (_, words, _)) in required {
-                            let met = format_args!("{call}, {lines}: {words}");
-                            see(format_args!("{met}, by the {route} route, on a {board} board"), count);
-                        }
-                    }
-                }
-            }
-            for (counts, (route, name)) in counts.lists.iter_mut().zip(ROUTES) {
-                for (counts, (_, spot)) in counts.ends.iter_mut().zip(SPOTS) {
-                    for (count, end) in counts.iter_mut().zip(ENDS) {
-                        see(format_args!("an access {spot}: {end}, by the {name} route, on a {board} board"), count);
-                    }
-                }
-                for (count, (_, words, routes, reached)) in counts.sights.iter_mut().zip(lists::SIGHTS) {
-                    if routes.contains(&route) && (*reached == Reached::Anywhere || board == "wild") {
-                        see(format_args!("a list, {words}, by the {name} route, on a {board} board"), count);
-                    }
-                }
-                for (count, (cause, _)) in counts.causes.iter_mut().zip(&CAUSES).filter(|_| board == "wild") {
-                    let (_, _, words) = CASES[*cause as usize];
-                    see(format_args!("a list, {words}, by the {name} route, on a {board} board"), count);
-                }
-            }
-        }
-        for (row, (_, route)) in self.routes.iter_mut().zip(&ROUTES) {
-            for (count, (call, _)) in row.iter_mut().zip(&KINDS) {
-                see(format_args!("{call} by the {route} route"), count);
-            }
+        for (counts, sort) in self.sorts.iter_mut().zip(SORTS) {
+            counts.each_required(sort, &mut see);
         }
         self.logs.each_required(&mut see);
-        see(format_args!("an audit of a fresh board"), &mut self.audits);
-        see(format_args!("a pair of runs"), &mut self.pairs);
-        see(format_args!("a pair of runs with a hit in one only"), &mut self.pairs_hit);
-        see(format_args!("a pair of runs with a refill's write-back in one only"), &mut self.pairs_write_back);
-        see(format_args!("a pair of runs with a list in which the others' accesses differ"), &mut self.pairs_list);
     }
 
     /// What was not reached, and what was though no sequence of calls should.
@@ -387,9 +405,11 @@ impl Coverage {
                 problems.push(format!("not reached: {words}"));
             }
         });
-        for (count, (_, reach, words)) in self.fresh.cases.iter().zip(CASES) {
-            if *reach == Reach::Wild && *count > 0 {
-                problems.push(format!("reached from a fresh board, which no calls should: {words}"));
+        for (counts, sort) in self.sorts.iter().zip(SORTS).filter(|(_, sort)| sort.fresh) {
+            for (count, (_, reach, words)) in counts.cases.iter().zip(CASES) {
+                if !reach.is_on(sort) && *count > 0 {
+                    problems.push(format!("reached from {sort}, which no calls should: {words}"));
+                }
             }
         }
         problems
@@ -404,11 +424,14 @@ impl Coverage {
         for (row, (call, table)) in KINDS.iter().enumerate() {
             write!(text, "{call:18}").expect(line);
             for number in 0..NUMBERS {
-                let count = self.fresh.numbers[row][number] + self.wild.numbers[row][number];
+                let count: u64 = self.sorts.iter().map(|counts| counts.numbers[row][number]).sum();
                 let shown = if table.contains(&(number as u32)) { count.to_string() } else { ".".into() };
                 write!(text, "{shown:>7}").expect(line);
             }
-            self.routes.iter().for_each(|counts| write!(text, "{:>8}", counts[row]).expect(line));
+            for route in 0..ROUTES.len() {
+                let count: u64 = self.sorts.iter().map(|counts| counts.routes[route][row]).sum();
+                write!(text, "{count:>8}").expect(line);
+            }
             text.push('\n');
         }
         write!(text, "\n{:26} refused", "calls by mark").expect(line);
@@ -417,37 +440,149 @@ impl Coverage {
         for (row, (call, _)) in MARKED.iter().enumerate() {
             write!(text, "{call:26}").expect(line);
             for (index, outcome) in OUTCOMES.iter().enumerate() {
-                let by_route = self.fresh.marks.iter().chain(&self.wild.marks);
+                let by_route = self.sorts.iter().flat_map(|counts| &counts.marks);
                 let count: u64 = by_route.map(|counts| counts[row][index]).sum();
                 let shown = if outcome.can_be(row, false) { count.to_string() } else { ".".into() };
                 write!(text, "{shown:>8}").expect(line);
             }
             text.push('\n');
         }
-        writeln!(text, "\n  fresh   wild  events").expect(line);
+        let heads = "  fresh   wild fresh 4 wild 4";
+        writeln!(text, "\n4: boards with sets of four\n{heads}  events").expect(line);
         for (index, (_, _, words)) in CASES.iter().enumerate() {
-            writeln!(text, "{:>7}{:>7}  {words}", self.fresh.cases[index], self.wild.cases[index]).expect(line);
+            self.row(&mut text, words, |counts| counts.cases[index]);
         }
-        writeln!(text, "\n  fresh   wild  at the places of a page").expect(line);
+        writeln!(text, "\n{heads}  at the places of a page").expect(line);
         for (index, (_, words, _)) in SIGHTS.iter().enumerate() {
             let met =
                 |counts: &Counts| counts.sights.iter().flatten().flatten().map(|counts| counts[index]).sum::<u64>();
-            writeln!(text, "{:>7}{:>7}  {words}", met(&self.fresh), met(&self.wild)).expect(line);
+            self.row(&mut text, words, met);
         }
         writeln!(text, "\n  alone  first middle   last  accesses in lists").expect(line);
         for (index, end) in ENDS.iter().enumerate() {
             for (spot, _) in SPOTS {
-                let by_route = self.fresh.lists.iter().chain(&self.wild.lists);
+                let by_route = self.sorts.iter().flat_map(|counts| &counts.lists);
                 let count: u64 = by_route.map(|counts| counts.ends[spot as usize][index]).sum();
                 write!(text, "{count:>7}").expect(line);
             }
             writeln!(text, "  {end}").expect(line);
         }
-        writeln!(text, "\n  fresh   wild  lists").expect(line);
+        writeln!(text, "\n{heads}  lists").expect(line);
         for (index, (_, words, ..)) in lists::SIGHTS.iter().enumerate() {
-            let met = |counts: &Counts| counts.lists.iter().map(|counts| counts.sights[index]).sum::<u64>();
-            writeln!(text, "{:>7}{:>7}  {words}", met(&self.fresh), met(&self.wild)).expect(line);
+            self.row(&mut text, words, |counts| counts.lists.iter().map(|counts| counts.sights[index]).sum::<u64>());
+        }
+        writeln!(text, "\nfresh 4 wild 4  in sets of four").expect(line);
+        for (index, (_, words, ..)) in sets::SIGHTS.iter().enumerate() {
+            let met = |counts: &Counts| counts.sets.iter().map(|counts| counts.met(index)).sum::<u64>();
+            writeln!(text, "{:>7}{:>7}  {words}", met(&self.sorts[2]), met(&self.sorts[3])).expect(line);
         }
         text
+    }
+
+    /// A row with a count for each sort of boards.
+    fn row(&self, text: &mut String, words: &str, count: impl Fn(&Counts) -> u64) {
+        for counts in &self.sorts {
+            write!(text, "{:>7}", count(counts)).expect("text grows");
+        }
+        writeln!(text, "  {words}").expect("text grows");
+    }
+}
+
+impl Counts {
+    /// What must be reached on boards of this sort.
+    fn each_required(&mut self, sort: Sort, see: &mut impl FnMut(Arguments, &mut u64)) {
+        let Sort { edition, fresh } = sort;
+        for (row, (counts, (call, table))) in self.numbers.iter_mut().zip(&KINDS).enumerate() {
+            for (number, count) in counts.iter_mut().enumerate() {
+                if table.contains(&(number as u32)) && (number != 1 || !fresh || row == LISTS) {
+                    see(format_args!("{call}, number {number}, on {sort}"), count);
+                }
+            }
+        }
+        for (count, (_, reach, words)) in self.cases.iter_mut().zip(CASES) {
+            if reach.is_on(sort) {
+                see(format_args!("{words}, on {sort}"), count);
+            }
+        }
+        for (counts, (_, route)) in self.entries.iter_mut().zip(&ROUTES) {
+            for (count, page) in counts.iter_mut().zip(ENTRY_PAGES) {
+                see(format_args!("the entry of page {page:#x} by the {route} route, on {sort}"), count);
+            }
+        }
+        for (counts, (_, route)) in self.marks.iter_mut().zip(&ROUTES) {
+            for (row, (counts, (call, _))) in counts.iter_mut().zip(&MARKED).enumerate() {
+                let outcomes = counts.iter_mut().zip(OUTCOMES);
+                for (count, outcome) in outcomes.filter(|(_, outcome)| outcome.can_be(row, fresh)) {
+                    see(format_args!("{call}: {outcome}, by the {route} route, on {sort}"), count);
+                }
+            }
+        }
+        for (counts, Edge { words, .. }) in self.edges.iter_mut().zip(&EDGES).filter(|(_, edge)| edge.is_of(edition)) {
+            for (counts, (_, route)) in counts.iter_mut().zip(&ROUTES) {
+                for (count, (call, _)) in counts.iter_mut().zip(&KINDS) {
+                    see(format_args!("{call}, {words}, by the {route} route, on {sort}"), count);
+                }
+            }
+        }
+        for (counts, (route, name)) in self.values.iter_mut().zip(ROUTES) {
+            for (counts, row) in counts.iter_mut().zip(&ROWS) {
+                let widths = counts.iter_mut().zip(WIDTHS);
+                for (counts, width) in widths.filter(|(_, width)| row.can_be(*width, route, fresh)) {
+                    for (count, value) in counts.iter_mut().zip(VALUES) {
+                        let tried = format_args!("{row}, value {value:#x}, width {width}");
+                        see(format_args!("{tried}, by the {name} route, on {sort}"), count);
+                    }
+                }
+            }
+        }
+        for (counts, (_, route)) in self.sights.iter_mut().zip(&ROUTES) {
+            for (counts, (sweep, call)) in counts.iter_mut().zip(SWEEPS) {
+                for (counts, (size, sets)) in counts.iter_mut().zip(SIZES) {
+                    let met = counts.iter_mut().zip(SIGHTS);
+                    for (count, (_, words, _)) in met.filter(|(_, (_, _, at))| at.has(sweep, size, fresh)) {
+                        see(format_args!("{call}, {sets}: {words}, by the {route} route, on {sort}"), count);
+                    }
+                }
+            }
+        }
+        for (counts, (route, name)) in self.lists.iter_mut().zip(ROUTES) {
+            for (counts, (_, spot)) in counts.ends.iter_mut().zip(SPOTS) {
+                for (count, end) in counts.iter_mut().zip(ENDS) {
+                    see(format_args!("an access {spot}: {end}, by the {name} route, on {sort}"), count);
+                }
+            }
+            for (count, (_, words, routes, reached)) in counts.sights.iter_mut().zip(lists::SIGHTS) {
+                if routes.contains(&route) && (*reached == Reached::Anywhere || !fresh) {
+                    see(format_args!("a list, {words}, by the {name} route, on {sort}"), count);
+                }
+            }
+            for (count, (cause, _)) in counts.causes.iter_mut().zip(&CAUSES) {
+                let (_, reach, words) = CASES[*cause as usize];
+                if reach.is_on(sort) {
+                    see(format_args!("a list, {words}, by the {name} route, on {sort}"), count);
+                }
+            }
+        }
+        if edition == Edition::Fours {
+            for (counts, (_, route)) in self.sets.iter_mut().zip(ROUTES) {
+                let mut see = |words: Arguments, count: &mut u64| {
+                    see(format_args!("{words}, by the {route} route, on {sort}"), count);
+                };
+                counts.each_required(fresh, &mut see);
+            }
+        }
+        for (row, (_, route)) in self.routes.iter_mut().zip(&ROUTES) {
+            for (count, (call, _)) in row.iter_mut().zip(&KINDS) {
+                see(format_args!("{call} by the {route} route, on {sort}"), count);
+            }
+        }
+        if fresh {
+            let PairCounts { pairs, hit, write_back, list } = &mut self.pairs;
+            see(format_args!("an audit of {sort}"), &mut self.audits);
+            see(format_args!("a pair of runs from {sort}"), pairs);
+            see(format_args!("a pair of runs from {sort} with a hit in one only"), hit);
+            see(format_args!("a pair of runs from {sort} with a refill's write-back in one only"), write_back);
+            see(format_args!("a pair of runs from {sort} with a list in which the others' accesses differ"), list);
+        }
     }
 }

@@ -1,6 +1,7 @@
 //! Boards at the limits of P and L, and past them, all buffers as long as the numbers say: at a limit every call must be done,
-//! past it every call must be refused by 1; by every route, on fresh boards and on wild ones. What was reached is counted
-//! apart from all other runs. The limit of F is tried in `largest.rs`.
+//! past it every call must be refused by 1; by every route, on fresh boards and on wild ones. Likewise boards of sets of four with
+//! too few lines or another number of matrices. What was reached is counted apart from all other runs. The limit of F is tried in
+//! `largest.rs`.
 
 use crate::coverage::{Coverage, Planned, EDGES};
 use crate::limits::*;
@@ -10,7 +11,7 @@ use crate::plant::Plant;
 use crate::rng::Rng;
 use crate::trace::{Deed, Start, Step};
 use crate::{gen, stepped, ways};
-use model::{Board, Call, Shape, NO_TAG};
+use model::{Board, Call, Edition, Shape, NO_TAG};
 
 const FRAMES: u64 = 4;
 
@@ -58,13 +59,13 @@ fn deeds(board: &Board) -> Vec<Deed> {
 
 /// A board on which the deeds can be done. On the wild one a tag is pending, whatever its name. On neither is a name left over
 /// where none is pending, which the safe route couldn't carry.
-fn start(rng: &mut Rng, shape: Shape, fresh: bool) -> Start {
+fn start(rng: &mut Rng, edition: Edition, shape: Shape, fresh: bool) -> Start {
     if fresh {
-        let mut start = gen::fresh(rng, shape);
+        let mut start = gen::fresh(rng, edition, shape);
         start.board.tag = NO_TAG;
         return start;
     }
-    let (mut board, _) = gen::wild_board(rng, shape);
+    let (mut board, _) = gen::wild_board(rng, edition, shape);
     board.words.iter_mut().filter(|word| **word / 4 == PAGE).for_each(|word| *word = 0);
     board.words[FRAME as usize] = 0;
     board.tag = (true, board.records[0]);
@@ -72,13 +73,15 @@ fn start(rng: &mut Rng, shape: Shape, fresh: bool) -> Start {
 }
 
 /// Gives how many boards were run.
-pub fn edges(rng: &mut Rng, plant: Option<Plant>, coverage: &mut Coverage) -> Result<usize, Failure> {
+pub fn edges(rng: &mut Rng, edition: Edition, plant: Option<Plant>, coverage: &mut Coverage) -> Result<usize, Failure> {
     let mut boards = 0;
-    for (index, edge) in EDGES.iter().enumerate() {
-        let shape = Shape { frames: FRAMES, uncached: 1, processes: edge.processes, lines: edge.lines };
+    for (index, edge) in EDGES.iter().enumerate().filter(|(_, edge)| edge.is_of(edition)) {
+        let lines = edge.lines.in_edition(edition);
+        let shape = Shape { frames: FRAMES, uncached: 1, processes: edge.processes, lines };
         coverage.planned = Some(Planned::Edge(index));
         for (fresh, manner) in ways() {
-            let start = start(rng, shape, fresh);
+            let mut start = start(rng, edition, shape, fresh);
+            (edge.edit)(&mut start.board);
             let deeds = deeds(&start.board);
             stepped(start, deeds.len(), plant, coverage, |index, _| Step { deed: deeds[index].clone(), manner })?;
             boards += 1;

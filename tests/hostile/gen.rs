@@ -1,13 +1,14 @@
 //! Random boards and calls. A board has a small world of segments, pages and lines, so that calls meet; calls are made with
 //! an eye on the board, so that most of them get far; one in ten has an argument that is out of its range.
 
-use crate::guarded::STARTS;
+use crate::guarded::{Offsets, STARTS};
 use crate::limits::*;
 use crate::lists::{Item, List};
 use crate::rng::Rng;
 use crate::routes::{Manner, ROUTES};
+use crate::sets;
 use crate::trace::{Deed, Start, Step};
-use model::{mapping, page_of_name, slot_read, Board, Call, Shape, NO_TAG};
+use model::{mapping, page_of_name, slot_read, Board, Call, Edition, Matrix, Shape, FRESH_MATRIX, NO_TAG};
 
 /// The segments, slots, pages and lines that a run plays with.
 pub struct World {
@@ -20,8 +21,8 @@ pub struct World {
 }
 
 impl World {
-    pub fn new(rng: &mut Rng, shape: &Shape) -> World {
-        let lines = shape.lines.clamp(1, LINES_MAX);
+    pub fn new(rng: &mut Rng, edition: Edition, shape: &Shape) -> World {
+        let sets = sets_of(edition, shape.lines.clamp(set_lines(edition), LINES_MAX));
         // Segments with equal low bits, the first and the last, or neighbours.
         let first = rng.pick(&[SEGMENT_FIRST, SEGMENT_FIRST, 0x12345, SEGMENT_LAST - 1]);
         let second = rng.pick(&[first + 1, SEGMENT_LAST, first ^ (1 << 14), first ^ (1 << 21)]);
@@ -38,7 +39,7 @@ impl World {
             slots: vec![0, rng.pick(&[1, 2, 255]), SLOTS - 1],
             indices,
             // Lines that share a place, and the page's last.
-            lines: vec![0, 1, lines % LINES_PER_PAGE, (lines + 1) % LINES_PER_PAGE, LINES_PER_PAGE - 1],
+            lines: vec![0, 1, sets % LINES_PER_PAGE, (sets + 1) % LINES_PER_PAGE, LINES_PER_PAGE - 1],
         }
     }
 
@@ -60,37 +61,42 @@ impl World {
 // Boards
 // ---------------------------------------------------------------------------------------------
 
-/// A small shape that keeps the limits; rarely a large one.
-pub fn shape(rng: &mut Rng) -> Shape {
+/// A small shape that keeps the limits; rarely a large one. Sets of four are few, so that they are full.
+pub fn shape(rng: &mut Rng, edition: Edition) -> Shape {
     let most = if rng.percent(10) { 8 } else { 5 };
     let frames = 1 + rng.below(most);
     let uncached = if rng.percent(90) { rng.below(frames).min(rng.below(frames)) } else { rng.below(frames + 1) };
     let processes = if rng.percent(2) { PROCESSES_MAX } else { 1 + rng.below(3) };
-    let lines = match rng.below(1000) {
-        0..=3 => LINES_MAX,
+    let sets = match rng.below(1000) {
+        0..=3 => sets_of(edition, LINES_MAX),
         4..=49 => rng.pick(&[32, 64, 128, 256, 512, 1024]),
+        _ if edition == Edition::Fours => 1 << rng.below(3),
         _ => 1 << rng.below(5),
     };
-    Shape { frames, uncached, processes, lines }
+    Shape { frames, uncached, processes, lines: set_lines(edition) * sets }
 }
 
-pub fn offsets(rng: &mut Rng) -> [usize; 5] {
-    [0; 5].map(|_: usize| rng.below(STARTS as u64) as usize)
+pub fn offsets(rng: &mut Rng) -> Offsets {
+    [0; 6].map(|_: usize| rng.below(STARTS as u64) as usize)
 }
 
-/// A fresh board: slots and words 0, no record valid, nothing pending. All else may be any bytes; records may have all of a
-/// held line but that they are valid.
-pub fn fresh(rng: &mut Rng, shape: Shape) -> Start {
-    let mut board = Board::fresh(shape);
+/// The name, but for its low bits, such that a record that stands there is at its place.
+fn placed(board: &Board, name: u64, at: u64) -> u64 {
+    name - name % sets_of(board.edition, board.shape.lines) + at / set_lines(board.edition)
+}
+
+/// A fresh board: slots and words 0, no record valid, nothing pending, matrices 0. All else may be any bytes; records may have
+/// all of a held line but that they are valid.
+pub fn fresh(rng: &mut Rng, edition: Edition, shape: Shape) -> Start {
+    let mut board = Board::fresh_of(edition, shape);
     rng.fill(&mut board.memory);
     rng.fill(&mut board.cache);
     match rng.below(4) {
         0 => board.records.iter_mut().for_each(|word| *word = rng.next() & !1),
         1 => {
-            for (place, record) in (0..).zip(board.records.chunks_exact_mut(2)) {
-                let name = rng.below(NAMES_END);
-                record[0] = name - name % shape.lines + place;
-                record[1] = rng.below(LINES_PER_PAGE * shape.frames) * 8 + rng.below(4) * 2;
+            for at in 0..shape.lines {
+                let name = placed(&board, rng.below(NAMES_END), at);
+                put(&mut board, at, (name, rng.below(LINES_PER_PAGE * shape.frames) * 8 + rng.below(4) * 2));
             }
         }
         _ => {}
@@ -102,9 +108,9 @@ pub fn fresh(rng: &mut Rng, shape: Shape) -> Start {
 }
 
 /// A board that no sequence of calls reaches, or whose numbers and lengths disagree.
-pub fn wild(rng: &mut Rng) -> (Start, World) {
-    let shape = shape(rng);
-    let (mut board, world) = wild_board(rng, shape);
+pub fn wild(rng: &mut Rng, edition: Edition) -> (Start, World) {
+    let shape = shape(rng, edition);
+    let (mut board, world) = wild_board(rng, edition, shape);
     if rng.percent(30) {
         spoil(rng, &mut board);
     }
@@ -112,9 +118,9 @@ pub fn wild(rng: &mut Rng) -> (Start, World) {
 }
 
 /// A board of this shape that no sequence of calls reaches.
-pub fn wild_board(rng: &mut Rng, shape: Shape) -> (Board, World) {
-    let mut board = Board::fresh(shape);
-    let world = World::new(rng, &board.shape);
+pub fn wild_board(rng: &mut Rng, edition: Edition, shape: Shape) -> (Board, World) {
+    let mut board = Board::fresh_of(edition, shape);
+    let world = World::new(rng, edition, &board.shape);
     rng.fill(&mut board.memory);
     rng.fill(&mut board.cache);
     for slot in 0..board.slots.len() {
@@ -126,10 +132,11 @@ pub fn wild_board(rng: &mut Rng, shape: Shape) -> (Board, World) {
     for frame in 0..board.words.len() {
         board.words[frame] = wild_word(rng, &world);
     }
-    for place in 0..board.shape.lines {
-        let record = wild_record(rng, &world, &board, place);
-        put(&mut board, place, record);
+    for at in 0..board.shape.lines {
+        let record = wild_record(rng, &world, &board, at);
+        put(&mut board, at, record);
     }
+    board.uses.iter_mut().for_each(|matrix| *matrix = wild_matrix(rng));
     board.tag = match rng.below(12) {
         0..=7 => NO_TAG,
         8 => (false, rng.next()),
@@ -139,10 +146,21 @@ pub fn wild_board(rng: &mut Rng, shape: Shape) -> (Board, World) {
     (board, world)
 }
 
-/// Puts a record's two words at a place.
-pub fn put(board: &mut Board, place: u64, words: (u64, u64)) {
-    let at = 2 * place as usize;
+/// Puts a record's two words there.
+pub fn put(board: &mut Board, at: u64, words: (u64, u64)) {
+    let at = 2 * at as usize;
     (board.records[at], board.records[at + 1]) = words;
+}
+
+/// Who was used after whom, in some order of uses; or any zeros and ones; or other bytes among them.
+fn wild_matrix(rng: &mut Rng) -> Matrix {
+    let bytes: &[u8] = match rng.below(4) {
+        0 => return rng.pick(sets::orders()).matrix(),
+        1 => &[0, 1],
+        2 => &[0, 0, 1, 2, 0x80, 0xFF],
+        _ => &[0, 0, 0, 0, 0, 1, 3, 0xFE],
+    };
+    FRESH_MATRIX.map(|row| row.map(|_| rng.pick(bytes)))
 }
 
 fn wild_slot(rng: &mut Rng, world: &World) -> u32 {
@@ -181,12 +199,17 @@ fn wild_name(rng: &mut Rng, world: &World, board: &Board) -> u64 {
     }
 }
 
-fn wild_record(rng: &mut Rng, world: &World, board: &Board, place: u64) -> (u64, u64) {
-    let Shape { frames, lines, .. } = board.shape;
+fn wild_record(rng: &mut Rng, world: &World, board: &Board, at: u64) -> (u64, u64) {
+    let frames = board.shape.frames;
     let mut name = wild_name(rng, world, board);
     if rng.percent(85) {
         // At its place, so that it may hold.
-        name = name - name % lines + place;
+        name = placed(board, name, at);
+    }
+    let line_of_set = at % set_lines(board.edition);
+    if line_of_set > 0 && rng.percent(15) {
+        // A name twice in its set.
+        name = board.record(at - 1 - rng.below(line_of_set)).name;
     }
     let mapped = mapping(&board.shape, &board.words, page_of_name(name));
     let (any, end) = (rng.next(), LINES_PER_PAGE * frames);
@@ -212,6 +235,9 @@ fn wild_record(rng: &mut Rng, world: &World, board: &Board, place: u64) -> (u64,
 /// lengths that don't agree either.
 fn spoil(rng: &mut Rng, board: &mut Board) {
     let Shape { frames, uncached, lines, .. } = board.shape;
+    if board.edition == Edition::Fours && rng.percent(20) {
+        return spoil_sets(rng, board);
+    }
     match rng.below(27) {
         0 => {
             board.shape.frames = 0;
@@ -225,11 +251,11 @@ fn spoil(rng: &mut Rng, board: &mut Board) {
         // 512 times these wraps to 0 and to 512.
         5 => set_processes(board, 1 << 55),
         6 => set_processes(board, (1 << 55) + 1),
-        7 => set_lines(board, 0),
-        8 => set_lines(board, rng.pick(&[3, 5, 6, 12, 24])),
-        9 if rng.percent(30) => set_lines(board, 2 * LINES_MAX),
+        7 => set_lines_to(board, 0),
+        8 => set_lines_to(board, rng.pick(&[3, 5, 6, 12, 24])),
+        9 if rng.percent(30) => set_lines_to(board, 2 * LINES_MAX),
         // Twice this, and sixteen times, wraps to 0.
-        10 => set_lines(board, 1 << 63),
+        10 => set_lines_to(board, 1 << 63),
         11 => board.shape.frames = rng.pick(&[FRAMES_MAX + 1, 1 << 32, 1 << 52, u64::MAX]),
         12 => resize(rng, &mut board.slots),
         13 => resize(rng, &mut board.words),
@@ -257,6 +283,20 @@ fn spoil(rng: &mut Rng, board: &mut Board) {
     }
 }
 
+/// The same by what sets of four ask: too few lines, or another number of matrices.
+fn spoil_sets(rng: &mut Rng, board: &mut Board) {
+    match rng.below(5) {
+        0 => set_lines_to(board, 1),
+        1 => set_lines_to(board, 2),
+        2 => {
+            // As many as there are lines, or bytes.
+            let count = rng.pick(&[1, MATRIX_BYTES / 4]) * board.shape.lines as usize;
+            board.uses.resize(count, FRESH_MATRIX);
+        }
+        _ => resize(rng, &mut board.uses),
+    }
+}
+
 /// Another P with the slots that 512 × P, as 64 bits, asks for.
 pub fn set_processes(board: &mut Board, processes: u64) {
     board.shape.processes = processes;
@@ -264,10 +304,11 @@ pub fn set_processes(board: &mut Board, processes: u64) {
 }
 
 /// Another L, likewise.
-pub fn set_lines(board: &mut Board, lines: u64) {
+pub fn set_lines_to(board: &mut Board, lines: u64) {
     board.shape.lines = lines;
     board.records.resize(lines.wrapping_mul(2) as usize, 0);
     board.cache.resize(lines.wrapping_mul(LINE_BYTES) as usize, 0);
+    board.uses.resize(matrices(board.edition, lines) as usize, FRESH_MATRIX);
 }
 
 fn resize<T: Clone + Default>(rng: &mut Rng, buffer: &mut Vec<T>) {

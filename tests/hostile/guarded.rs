@@ -2,7 +2,8 @@
 //! a fence on one side.
 
 use crate::fence::Fenced;
-use model::{Board, Shape};
+use crate::limits::matrix_bytes;
+use model::{Board, Edition, Shape};
 use std::ops::{Deref, DerefMut};
 
 /// At least this many bytes of canary stand on each side of a buffer.
@@ -166,28 +167,37 @@ impl Lists {
     }
 }
 
+/// By how many elements each of a board's buffers is moved, or at which fence it stands: slots, words, records, cache, memory,
+/// uses.
+pub type Offsets = [usize; 6];
+
 /// The board that the library gets. The tag's two words stand between canaries as well.
 pub struct Real {
+    pub edition: Edition,
     pub shape: Shape,
     pub slots: Guarded<u32>,
     pub words: Guarded<u64>,
     pub records: Guarded<u64>,
     pub cache: Guarded<u8>,
     pub memory: Guarded<u8>,
+    /// The matrices, as bytes.
+    pub uses: Guarded<u8>,
     pub set: Guarded<u32>,
     pub name: Guarded<u64>,
 }
 
 impl Real {
-    /// The same board as the model's, its five buffers at these offsets.
-    pub fn of(board: &Board, offsets: &[usize; 5]) -> Real {
+    /// The same board as the model's, its buffers at these offsets.
+    pub fn of(board: &Board, offsets: &Offsets) -> Real {
         Real {
+            edition: board.edition,
             shape: board.shape,
             slots: Guarded::holding(&board.slots, offsets[0]),
             words: Guarded::holding(&board.words, offsets[1]),
             records: Guarded::holding(&board.records, offsets[2]),
             cache: Guarded::holding(&board.cache, offsets[3]),
             memory: Guarded::holding(&board.memory, offsets[4]),
+            uses: Guarded::holding(matrix_bytes(&board.uses), offsets[5]),
             set: Guarded::holding(&[u32::from(board.tag.0)], offsets[0] % OFFSETS),
             name: Guarded::holding(&[board.tag.1], offsets[1] % OFFSETS),
         }
@@ -210,6 +220,7 @@ impl Real {
             ("records", self.records.intact()),
             ("cache", self.cache.intact()),
             ("memory", self.memory.intact()),
+            ("uses", self.uses.intact()),
             ("the tag's set", self.set.intact()),
             ("the tag's name", self.name.intact()),
         ];

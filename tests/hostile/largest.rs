@@ -6,7 +6,7 @@ use crate::guarded::{Guarded, Real};
 use crate::limits::*;
 use crate::lists::{Item, List};
 use crate::routes::{self, Manner, Route, ROUTES};
-use model::{Answer, Board, Call, Shape};
+use model::{Answer, Board, Call, Edition, Shape};
 
 const UNCACHED: u64 = 1;
 
@@ -54,12 +54,15 @@ fn list() -> List {
 }
 
 pub fn largest() -> Result<(), String> {
-    for frames in [FRAMES_MAX, FRAMES_MAX + 1] {
-        for (route, name) in ROUTES {
-            let done = board(frames, route).map_err(|problem| format!("F = {frames}, {name} route: {problem}"))?;
-            println!("F = {frames}, {name} route: {done} calls done, all equal");
-            if (done > 0) != (frames == FRAMES_MAX) {
-                return Err(format!("F = {frames}, {name} route: {done} calls are done"));
+    for (edition, _) in EDITIONS {
+        for frames in [FRAMES_MAX, FRAMES_MAX + 1] {
+            for (route, name) in ROUTES {
+                let of = format!("F = {frames}, sets of {}, {name} route", set_lines(edition));
+                let done = board(edition, frames, route).map_err(|problem| format!("{of}: {problem}"))?;
+                println!("{of}: {done} calls done, all equal");
+                if (done > 0) != (frames == FRAMES_MAX) {
+                    return Err(format!("{of}: {done} calls are done"));
+                }
             }
         }
     }
@@ -68,15 +71,17 @@ pub fn largest() -> Result<(), String> {
 }
 
 /// Gives how many calls were done.
-fn board(frames: u64, route: Route) -> Result<usize, String> {
-    let mut model = Board::fresh(Shape { frames, uncached: UNCACHED, processes: 1, lines: 1024 });
+fn board(edition: Edition, frames: u64, route: Route) -> Result<usize, String> {
+    let mut model = Board::fresh_of(edition, Shape { frames, uncached: UNCACHED, processes: 1, lines: 1024 });
     let mut real = Real {
+        edition,
         shape: model.shape,
         slots: Guarded::zeroed(model.slots.len(), 1),
         words: Guarded::zeroed(model.words.len(), 2),
         records: Guarded::zeroed(model.records.len(), 3),
         cache: Guarded::zeroed(model.cache.len(), 4),
         memory: Guarded::zeroed(model.memory.len(), 5),
+        uses: Guarded::zeroed(MATRIX_BYTES * model.uses.len(), 9),
         set: Guarded::zeroed(1, 6),
         name: Guarded::zeroed(1, 7),
     };
@@ -133,6 +138,7 @@ fn same(real: &Real, model: &Board) -> bool {
         && real.words.inner() == model.words
         && real.records.inner() == model.records
         && real.cache.inner() == model.cache
+        && real.uses.inner() == matrix_bytes(&model.uses)
         && real.tag() == (u32::from(model.tag.0), model.tag.1)
         && ours[..ends] == theirs[..ends]
         && ours[ours.len() - ends..] == theirs[theirs.len() - ends..]

@@ -1,5 +1,7 @@
-//! 01's numbers, with P and L by CR 7, and those of CR 1, CR 2, CR 5, CR 8 and CR 12, written out again: what the test tries must
-//! not move with a mistake in the model.
+//! 01's numbers, with P and L by CR 7, and those of CR 1, CR 2, CR 4, CR 5, CR 8 and CR 12, written out again: what the test
+//! tries must not move with a mistake in the model.
+
+use model::{Edition, Matrix};
 
 pub const PAGE_BYTES: u64 = 4096;
 pub const LINE_BYTES: u64 = 16;
@@ -31,7 +33,40 @@ pub const USER_END: u32 = 0x8000_0000;
 pub const GLOBAL_END: u64 = 1 << 44;
 pub const NAMES_END: u64 = 1 << 40;
 
-/// Where the bytes of a line stand, in memory by its number and in the cache bytes by its place.
+/// The editions of the cache, by CR 4, as traces name them: one line to a place, which is a set of one here; sets of four.
+pub const EDITIONS: [(Edition, &str); 2] = [(Edition::Ones, "ones"), (Edition::Fours, "fours")];
+
+/// How many lines a set has.
+pub const fn set_lines(edition: Edition) -> u64 {
+    match edition {
+        Edition::Ones => 1,
+        Edition::Fours => 4,
+    }
+}
+
+/// How many sets so many lines are: as many as places.
+pub fn sets_of(edition: Edition, lines: u64) -> u64 {
+    lines / set_lines(edition)
+}
+
+/// How many matrices so many lines have, each of sixteen bytes. Of an L that is none, as many as there are in 4 × L bytes, as 64
+/// bits.
+pub fn matrices(edition: Edition, lines: u64) -> u64 {
+    match edition {
+        Edition::Ones => 0,
+        Edition::Fours => lines.wrapping_mul(4) / MATRIX_BYTES as u64,
+    }
+}
+
+pub const MATRIX_BYTES: usize = 16;
+
+/// Matrices as the bytes that they are: row after row.
+pub fn matrix_bytes(matrices: &[Matrix]) -> &[u8] {
+    // Safety: a matrix is so many bytes without gaps.
+    unsafe { std::slice::from_raw_parts(matrices.as_ptr().cast(), MATRIX_BYTES * matrices.len()) }
+}
+
+/// Where the bytes of a line stand, in memory by its number and in the cache bytes by that of its record.
 pub fn line_bytes(line: u64) -> std::ops::Range<usize> {
     (line * LINE_BYTES) as usize..((line + 1) * LINE_BYTES) as usize
 }

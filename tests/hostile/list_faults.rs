@@ -1,7 +1,7 @@
 //! Planted faults of lists: each makes of the board, of the answers or of what is told what a library with that fault would.
 
 use crate::guarded::{Lists, Real, FENCED_BEHIND};
-use crate::limits::{end_of_width, HIT};
+use crate::limits::{end_of_width, matrix_bytes, HIT};
 use crate::lists::{Item, List};
 use crate::routes::{packed, Told};
 use crate::run::Kind;
@@ -111,6 +111,7 @@ fn redone(before: &Board, items: &[Item], real: &mut Real) -> Vec<u64> {
     real.records.inner_mut().copy_from_slice(&board.records);
     real.cache.inner_mut().copy_from_slice(&board.cache);
     real.memory.inner_mut().copy_from_slice(&board.memory);
+    real.uses.inner_mut().copy_from_slice(matrix_bytes(&board.uses));
     answers
 }
 

@@ -2,8 +2,8 @@
 //! place of a list; lists whose accesses meet; lists whose lengths don't agree; lists on boards that don't fit, for each cause.
 //! Nothing else is counted there.
 
-use crate::cases::Case;
-use crate::coverage::{Coverage, Planned};
+use crate::cases::{Case, CASES};
+use crate::coverage::{Coverage, Planned, Sort};
 use crate::gen;
 use crate::guarded::FENCED_BEHIND;
 use crate::limits::*;
@@ -13,13 +13,13 @@ use crate::plant::Plant;
 use crate::rng::Rng;
 use crate::routes::Manner;
 use crate::trace::{Deed, Start, Step};
-use crate::values::{self, access, load, store, Row, Whose::User, SHAPE};
+use crate::values::{self, access, load, store, Row, Whose::User};
 use crate::{stepped, ways};
-use model::{Board, Call, Event, NO_TAG};
+use model::{Board, Call, Edition, Event, FRESH_MATRIX, NO_TAG};
 use Event::{Hit, Miss, MissWriteBack, Refused};
 
-/// What makes a board unfit for every call, each by itself, and how.
-pub const CAUSES: [(Case, fn(&mut Board)); 20] = [
+/// What makes a board unfit for every call, each by itself, and how: in either edition, then in sets of four.
+pub const CAUSES: [(Case, fn(&mut Board)); 27] = [
     (Case::FramesZero, |board| {
         (board.shape.frames, board.shape.uncached) = (0, 0);
         board.words.clear();
@@ -30,10 +30,10 @@ pub const CAUSES: [(Case, fn(&mut Board)); 20] = [
     (Case::ProcessesZero, |board| gen::set_processes(board, 0)),
     (Case::ProcessesOver, |board| gen::set_processes(board, PROCESSES_MAX + 1)),
     (Case::ProcessesWrap, |board| gen::set_processes(board, (1 << 55) + 1)),
-    (Case::LinesZero, |board| gen::set_lines(board, 0)),
-    (Case::LinesNoPower, |board| gen::set_lines(board, 3)),
-    (Case::LinesOver, |board| gen::set_lines(board, 2 * LINES_MAX)),
-    (Case::LinesWrap, |board| gen::set_lines(board, 1 << 63)),
+    (Case::LinesZero, |board| gen::set_lines_to(board, 0)),
+    (Case::LinesNoPower, |board| gen::set_lines_to(board, 3 * set_lines(board.edition))),
+    (Case::LinesOver, |board| gen::set_lines_to(board, 2 * LINES_MAX)),
+    (Case::LinesWrap, |board| gen::set_lines_to(board, 1 << 63)),
     (Case::SlotsShort, |board| board.slots.truncate(board.slots.len() - 1)),
     (Case::SlotsLong, |board| board.slots.push(0)),
     (Case::WordsShort, |board| board.words.truncate(board.words.len() - 1)),
@@ -44,6 +44,13 @@ pub const CAUSES: [(Case, fn(&mut Board)); 20] = [
     (Case::CacheLong, |board| board.cache.push(0)),
     (Case::MemoryShort, |board| board.memory.truncate(board.memory.len() - 1)),
     (Case::MemoryLong, |board| board.memory.push(0)),
+    (Case::LinesBelow1, |board| gen::set_lines_to(board, 1)),
+    (Case::LinesBelow2, |board| gen::set_lines_to(board, 2)),
+    (Case::UsesNone, |board| board.uses.clear()),
+    (Case::UsesShort, |board| board.uses.truncate(board.uses.len() - 1)),
+    (Case::UsesLong, |board| board.uses.push(FRESH_MATRIX)),
+    (Case::UsesAsLines, |board| board.uses.resize(board.shape.lines as usize, FRESH_MATRIX)),
+    (Case::UsesAsBytes, |board| board.uses.resize(4 * board.shape.lines as usize, FRESH_MATRIX)),
 ];
 
 // ----- every end at every place -----
@@ -75,13 +82,13 @@ fn ends() -> [(Row, Call); ENDS.len()] {
 
 /// The calls that bring the end about, and the access in lists with others, which are to another place of the cache: alone,
 /// first, in the midst, last.
-fn deeds_of_end(row: &Row, call: &Call) -> Vec<Deed> {
+fn deeds_of_end(edition: Edition, row: &Row, call: &Call) -> Vec<Deed> {
     let (own, other) = (item(call), item(&access(&load(User, Hit), 4, 0, 1)));
     let lists = [vec![own], vec![own, other, other], vec![other, own, other], vec![other, other, own]];
     let mut deeds: Vec<Deed> = values::first_calls(row).into_iter().map(Deed::Call).collect();
     for items in lists {
-        // What is before a load is what is before a store: the line at its place is changed by one.
-        let before = values::calls_before(&Row { store: true, ..*row });
+        // What is before a load is what is before a store: the lines at its place are changed by one.
+        let before = values::calls_before(edition, &Row { store: true, ..*row });
         deeds.extend(before.into_iter().map(Deed::Call).chain([listed(items)]));
     }
     deeds
@@ -112,21 +119,21 @@ fn stored(line: u64, value: u32) -> Item {
 }
 
 /// Lists of every length but the long one, and what accesses may meet in them.
-fn meetings() -> Vec<Deed> {
+fn meetings(edition: Edition) -> Vec<Deed> {
     let row = store(User, Hit);
     let mut deeds: Vec<Deed> = values::first_calls(&row).into_iter().map(Deed::Call).collect();
     // Process 1 has the segment in the same slot.
     deeds.push(Deed::Call(Call::Attach { process: 1, slot: 0, segment: SEGMENT_FIRST, write: true }));
     let flush = || Deed::Call(Call::FlushAll);
-    // A line that shares its place with line 0.
-    let far = SHAPE.lines;
+    // Lines that share their place with line 0, and push it out.
+    let pushed = || values::pushing(edition).map(loaded);
     let read_only = |store: bool| item(&access(&Row { store, ..values::store(User, Refused(9)) }, 1, 1, 0));
     let refused = |number: u32| item(&access(&store(User, Refused(number)), 4, 1, 0));
     let unmapped = item(&access(&load(User, Refused(8)), 1, 0, 0));
     let by = |process: u64| Item { process, ..loaded(0) };
     deeds.extend([listed(vec![]), listed(vec![loaded(0)]), listed(vec![loaded(0), loaded(1)]), flush()]);
-    deeds.push(listed(vec![stored(0, 50), loaded(0), by(1), loaded(far), loaded(0)]));
-    deeds.extend([flush(), listed(vec![loaded(0)]), listed(vec![loaded(far), loaded(0)]), flush()]);
+    deeds.push(listed([stored(0, 50), loaded(0), by(1)].into_iter().chain(pushed()).chain([loaded(0)]).collect()));
+    deeds.extend([flush(), listed(vec![loaded(0)]), listed(pushed().chain([loaded(0)]).collect()), flush()]);
     deeds.push(listed(vec![read_only(false), read_only(true), read_only(false)]));
     deeds.push(listed(vec![unmapped; 2]));
     deeds.push(listed([2, 4, 5, 6, 7, 8, 9].map(refused).into_iter().chain([loaded(0); 5]).collect()));
@@ -191,23 +198,25 @@ fn run(
 }
 
 /// Gives how many boards were run.
-pub fn lists(rng: &mut Rng, plant: Option<Plant>, coverage: &mut Coverage) -> Result<usize, Failure> {
+pub fn lists(rng: &mut Rng, edition: Edition, plant: Option<Plant>, coverage: &mut Coverage) -> Result<usize, Failure> {
     let mut boards = 0;
     coverage.planned = Some(Planned::Lists);
     for (fresh, manner) in ways() {
         for (row, call) in ends() {
-            run(values::start(rng, &row, fresh), &deeds_of_end(&row, &call), manner, plant, coverage)?;
+            let (start, deeds) = (values::start(rng, edition, &row, fresh), deeds_of_end(edition, &row, &call));
+            run(start, &deeds, manner, plant, coverage)?;
             boards += 1;
         }
         for (yes, null) in [(1, false), (2, true)] {
-            let start = values::start(rng, &store(User, Hit), fresh);
+            let start = values::start(rng, edition, &store(User, Hit), fresh);
             let long = (!null).then(|| Deed::List(long()));
-            let deeds: Vec<Deed> = meetings().into_iter().chain(long).collect();
+            let deeds: Vec<Deed> = meetings(edition).into_iter().chain(long).collect();
             run(start, &deeds, Manner { yes, null, ..manner }, plant, coverage)?;
             boards += 1;
         }
-        for (_, spoil) in CAUSES.iter().filter(|_| !fresh) {
-            let (mut board, _) = gen::wild_board(rng, SHAPE);
+        let sort = Sort { edition, fresh };
+        for (_, spoil) in CAUSES.iter().filter(|(cause, _)| CASES[*cause as usize].1.is_on(sort)) {
+            let (mut board, _) = gen::wild_board(rng, edition, values::shape(edition));
             board.tag = NO_TAG;
             spoil(&mut board);
             run(Start { fresh, board, offsets: gen::offsets(rng) }, &unfit(), manner, plant, coverage)?;

@@ -5,7 +5,7 @@
 use crate::cases::{self, Case};
 use crate::limits::*;
 use crate::routes::{Manner, Route};
-use model::{global_of, name_of, offset_of, place_of, slot_of, slot_read, Board, Call, Event};
+use model::{global_of, name_of, offset_of, slot_of, slot_read, Board, Call, Event};
 use std::ops::Range;
 use Reached::{Anywhere, OnWild};
 use Route::{Board as ByBoard, Header, Raw, Safe};
@@ -246,9 +246,12 @@ pub struct Tally {
     pub cause: Option<Case>,
 }
 
+/// What an access of a list did, and the record with which it was done, or would have been, if it was to a line.
+pub type Did = (Event, Option<u64>);
+
 impl Tally {
     /// Of a list on this board, by what its accesses did: none of them where it was refused.
-    pub fn of(list: &List, manner: &Manner, board: &Board, events: &[Event]) -> Tally {
+    pub fn of(list: &List, manner: &Manner, board: &Board, events: &[Did]) -> Tally {
         let mut tally = Tally::default();
         if !board.fits() {
             tally.unfit(list, board);
@@ -307,14 +310,14 @@ impl Tally {
         );
     }
 
-    fn accesses(&mut self, list: &List, manner: &Manner, board: &Board, events: &[Event]) {
+    fn accesses(&mut self, list: &List, manner: &Manner, board: &Board, events: &[Did]) {
         let several = list.items.len() > 1;
-        let refused = |event: &Event| matches!(event, Event::Refused(_));
+        let refused = |(event, _): &Did| matches!(event, Event::Refused(_));
         self.when(several && !events.iter().any(refused), Sight::AllDone);
         self.when(several && events.iter().all(refused) && !board.tag.0, Sight::AllRefused);
         self.when(several && board.tag.0 && manner.yes != 1, Sight::OddSet);
         let mut past = Past::default();
-        for (index, (item, &event)) in list.items.iter().zip(events).enumerate() {
+        for (index, (item, &(event, at))) in list.items.iter().zip(events).enumerate() {
             let spot = Spot::of(index, list.items.len());
             self.ends.extend(end_of(item, event, board).map(|end| (spot as usize, end)));
             let made = MAKERS.contains(&manner.route) && item.can_be_made();
@@ -330,15 +333,22 @@ impl Tally {
                 self.when(!item.is_store() && large, Sight::LargeLoad);
                 DONE_AFTER.into_iter().for_each(|(number, sight)| self.when(past.numbers.contains(&number), sight));
             }
-            if let Some(touched) = Touched::of(item, board) {
-                self.through_others(&past, board, item, &touched, event);
-                past.has(board, item, touched, event);
+            if let (Some(touched), Some(at)) = (Touched::of(item, board), at) {
+                self.through_others(&past, board, item, &touched, (event, at));
+                past.has(item, touched, (event, at));
             }
         }
     }
 
     /// What becomes of an access through those before it.
-    fn through_others(&mut self, past: &Past, board: &Board, item: &Item, touched: &Touched, event: Event) {
+    fn through_others(
+        &mut self,
+        past: &Past,
+        board: &Board,
+        item: &Item,
+        touched: &Touched,
+        (event, at): (Event, u64),
+    ) {
         let done = !matches!(event, Event::Refused(_));
         let fill = past.fills.iter().rev().find(|fill| fill.name == touched.name && !fill.pushed);
         let pushed = |fill: &Fill| fill.name == touched.name && fill.pushed;
@@ -348,8 +358,7 @@ impl Tally {
         self.when(missed && past.fills.iter().any(pushed), Sight::MissFilled);
         self.when(missed && board.held_by_name(touched.name).is_some(), Sight::MissPushed);
         self.when(event == Event::Refused(9) && fill.is_some_and(|fill| !fill.store), Sight::ReadOnlyFilled);
-        let place = place_of(touched.name, board.shape.lines);
-        let changed = |store: &Store| store.done && !store.pushed && store.place == place;
+        let changed = |store: &Store| store.done && !store.pushed && store.at == at;
         self.when(event == Event::MissWriteBack && past.stores.iter().any(changed), Sight::WritesOwn);
         if done && !item.is_store() {
             for store in past.stores.iter().filter(|store| store.touched.meets(touched)) {
@@ -398,7 +407,8 @@ impl Touched {
 /// A line that the list has filled.
 struct Fill {
     name: u64,
-    place: u64,
+    /// Into this record.
+    at: u64,
     process: u64,
     /// By a store, or by a load.
     store: bool,
@@ -409,7 +419,7 @@ struct Fill {
 /// A store of the list.
 struct Store {
     touched: Touched,
-    place: u64,
+    at: u64,
     done: bool,
     /// Its line was pushed out since.
     pushed: bool,
@@ -424,17 +434,16 @@ struct Past {
 }
 
 impl Past {
-    fn has(&mut self, board: &Board, item: &Item, touched: Touched, event: Event) {
+    fn has(&mut self, item: &Item, touched: Touched, (event, at): (Event, u64)) {
         let (name, process, store) = (touched.name, item.process, item.is_store());
-        let place = place_of(name, board.shape.lines);
         if matches!(event, Event::Miss | Event::MissWriteBack) {
-            self.fills.iter_mut().filter(|fill| fill.place == place).for_each(|fill| fill.pushed = true);
-            self.stores.iter_mut().filter(|store| store.place == place).for_each(|store| store.pushed = true);
-            self.fills.push(Fill { name, place, process, store, pushed: false });
+            self.fills.iter_mut().filter(|fill| fill.at == at).for_each(|fill| fill.pushed = true);
+            self.stores.iter_mut().filter(|store| store.at == at).for_each(|store| store.pushed = true);
+            self.fills.push(Fill { name, at, process, store, pushed: false });
         }
         if store {
             let done = !matches!(event, Event::Refused(_));
-            self.stores.push(Store { touched, place, done, pushed: false });
+            self.stores.push(Store { touched, at, done, pushed: false });
         }
     }
 }

@@ -116,6 +116,7 @@ faults! {
     WholePlace "log-whole-place" Whole "A reading ends at another place.";
     Trip "log-trip" Trip "What was written is read as another entry.";
     Replay "log-replay" Trip "A call of a log gives another value when it is made again.";
+    ReplayFours "log-replay-sets" Trip "The same, in sets of four.";
     Parts "write-parts" Form "In parts, writing gives another field.";
     Moves "log-moves" Form "A piece has a byte more left than was not taken.";
     CallsOver "log-calls-over" Asked "A reader has given a call more than it has.";
@@ -130,7 +131,7 @@ impl Wrong {
     /// Whether it is a fault of the reader and writer that stand in for the library.
     pub fn stands_in(self) -> bool {
         use Wrong::*;
-        !matches!(self, Whole | WholePlace | Trip | Replay | Parts | Moves | CallsOver | Iterates)
+        !matches!(self, Whole | WholePlace | Trip | Replay | ReplayFours | Parts | Moves | CallsOver | Iterates)
     }
 }
 

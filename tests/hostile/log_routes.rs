@@ -7,8 +7,8 @@ use crate::limits::*;
 use crate::log_faults::{Faulty, Wrong};
 use crate::logs::{self, Asked, Piece, Reading, State, Words};
 use crate::plant::Plant;
-use crate::routes::{told_in_c, told_safely, CAnswer, CBoard, Manner, Route};
-use model::{Answer, Board, Shape};
+use crate::routes::{told_in_c, told_safely, CAnswer, CBoard, Manner, Route, Way};
+use model::{Answer, Edition, Shape};
 use oaledva::ffi;
 use oaledva::log::{Call, Calls, Entry, Reason, Refused, WriteError, Writer};
 use std::io::Read;
@@ -50,7 +50,7 @@ extern "C" {
     fn through_reader_place(reader: *const u64) -> u64;
     fn through_log_encode(entry: *const Words, bytes: *mut u8) -> CWritten;
     fn through_log_make(entry: *mut Words, yes: u32);
-    fn through_board_perform(board: *mut CBoard, entry: *const Words) -> CAnswer;
+    fn through_board_perform(board: *mut CBoard, way: Way, entry: *const Words) -> CAnswer;
 }
 
 /// How many of the header's names are compared: kinds, reasons, and sizes.
@@ -299,24 +299,28 @@ pub fn call_words(call: &Call) -> Words {
     words_of(&Entry::from(*call))
 }
 
-/// The calls made on a fresh board of zeros, by the two routes that make calls of entries.
-pub fn replayed(shape: &Shape, entries: &[Words], route: Route) -> Option<Vec<Answer>> {
+/// The calls made on a fresh board of zeros of this edition, by the two routes that make calls of entries.
+pub fn replayed(edition: Edition, shape: &Shape, entries: &[Words], route: Route) -> Option<Vec<Answer>> {
     match route {
         Route::Raw | Route::Header => None,
         Route::Board => {
-            let none = Shape { frames: 0, uncached: 0, processes: 0, lines: 0 };
-            let fresh = if model::limits_hold(shape) { *shape } else { none };
-            let mut real = Real::of(&Board { shape: *shape, ..Board::fresh(fresh) }, &[0; 5]);
+            let mut real = Real::of(&model::log::zeroed(edition, *shape), &[0; 6]);
             let mut board = CBoard::of(&mut real, false);
+            let way = Manner { route, yes: 1, null: false }.way(edition);
             // Safety: the board's buffers stand, and are its own; an entry is six words.
-            let perform = |entry: &Words| unsafe { through_board_perform(&mut board, entry) };
+            let perform = |entry: &Words| unsafe { through_board_perform(&mut board, way, entry) };
             Some(entries.iter().map(perform).map(|told| told_in_c(told).answer).collect())
         }
         Route::Safe => {
             let [frames, uncached, processes, lines] =
                 [shape.frames, shape.uncached, shape.processes, shape.lines].map(|number| number as usize);
             let shape = oaledva::Shape { frames, uncached, processes, lines };
-            let mut board = oaledva::Board::for_replay(shape).expect("memory for a board of moderate size");
+            let edition = match edition {
+                Edition::Ones => oaledva::Edition::OnePlace,
+                Edition::Fours => oaledva::Edition::SetsOfFour,
+            };
+            let board = oaledva::Board::for_replay_in(edition, shape);
+            let mut board = board.expect("memory for a board of moderate size");
             let perform = |words: &Words| {
                 let call = entry_of(words).call().expect("a call that was read");
                 let done = board.perform(&call);

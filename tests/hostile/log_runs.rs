@@ -14,7 +14,7 @@ use crate::rng::Rng;
 use crate::routes::{Manner, Route};
 use crate::stepped;
 use crate::trace::{Deed, Start, Step};
-use model::{log, samples, Board, Call, Shape};
+use model::{log, samples, Board, Call, Edition, Shape};
 use Route::{Board as ByBoard, Header, Raw, Safe};
 
 /// Steps of a random run.
@@ -27,16 +27,17 @@ const RUNS_PER_BOARD: u64 = 16;
 /// No board: shape and buffers are nothing.
 fn no_board() -> Start {
     let board = Board::fresh(Shape { frames: 0, uncached: 0, processes: 0, lines: 0 });
-    Start { fresh: false, board, offsets: [0; 5] }
+    Start { fresh: false, board, offsets: [0; 6] }
 }
 
 /// A small board, fresh or wild, which logs must leave as it is.
 fn board(rng: &mut Rng) -> Start {
-    let shape = Shape { frames: 2, uncached: 1, processes: 1, lines: 2 };
+    let (edition, _) = rng.pick(&EDITIONS);
+    let shape = Shape { frames: 2, uncached: 1, processes: 1, lines: 2 * set_lines(edition) };
     if rng.flip() {
-        return gen::fresh(rng, shape);
+        return gen::fresh(rng, edition, shape);
     }
-    let (board, _) = gen::wild_board(rng, shape);
+    let (board, _) = gen::wild_board(rng, edition, shape);
     Start { fresh: false, board, offsets: gen::offsets(rng) }
 }
 
@@ -78,8 +79,8 @@ fn calls(rng: &mut Rng) -> Vec<Words> {
         let header = log_gen::header(rng);
         return [header].into_iter().chain((0..length).map(|_| log_gen::entry(rng))).collect();
     }
-    let shape = Shape { lines: 1 << rng.below(7), ..gen::shape(rng) };
-    let (mut board, world) = (Board::fresh(shape), World::new(rng, &shape));
+    let shape = Shape { lines: 1 << rng.below(7), ..gen::shape(rng, Edition::Ones) };
+    let (mut board, world) = (Board::fresh(shape), World::new(rng, Edition::Ones, &shape));
     let mut entries = vec![header_entry(&shape)];
     for index in 0..length {
         let call = match gen::call(rng, &world, &board, index < 12) {

@@ -13,7 +13,7 @@ use crate::plant::Plant;
 use crate::routes::{Manner, Route};
 use crate::run::{differs, same, same_buffer, Difference, Kind};
 use model::log::{self, Reason, Unwritable};
-use model::Shape;
+use model::{Edition, Shape};
 use std::fmt::Write;
 
 /// An entry as numbers.
@@ -495,19 +495,23 @@ fn iterated(log: &[u8], reading: &Reading, plant: Option<Plant>) -> Check {
     Err(differs(Kind::Whole, format!("the iterator ends with {end:?}, the whole log with {refusal:?}")))
 }
 
-/// A run that was written, made again of its log, by the header's function or the safe crate's: as the model replays it.
+/// A run that was written, made again of its log in each edition, by the header's function or the safe crate's: as the model
+/// replays it.
 fn replayed(log: &[u8], route: Route, plant: Option<Plant>) -> Check {
     let read = log::read(log);
     let Some(shape) = read.header.filter(is_moderate) else { return Ok(()) };
     let entries: Vec<Words> = read.calls.iter().map(call_entry).collect();
-    let Some(mut answers) = log_routes::replayed(&shape, &entries, route) else { return Ok(()) };
-    if plant == Some(Plant::Log(Some(Wrong::Replay))) {
-        answers.iter_mut().for_each(|answer| answer.value ^= 1);
-    }
-    for (index, (answer, expected)) in answers.iter().zip(&log::replay(log, None).answers).enumerate() {
-        if answer != expected {
-            let call = index + 1;
-            return Err(differs(Kind::Trip, format!("call {call} made again: {answer:?}, by the model {expected:?}")));
+    for (edition, wrong) in [(Edition::Ones, Wrong::Replay), (Edition::Fours, Wrong::ReplayFours)] {
+        let Some(mut answers) = log_routes::replayed(edition, &shape, &entries, route) else { return Ok(()) };
+        if plant == Some(Plant::Log(Some(wrong))) {
+            answers.iter_mut().for_each(|answer| answer.value ^= 1);
+        }
+        let replayed = log::replay_in(edition, log, None);
+        for (index, (answer, expected)) in answers.iter().zip(&replayed.answers).enumerate() {
+            if answer != expected {
+                let text = format!("call {} made again in sets of {}: {answer:?}", index + 1, set_lines(edition));
+                return Err(differs(Kind::Trip, format!("{text}, by the model {expected:?}")));
+            }
         }
     }
     Ok(())
@@ -515,7 +519,7 @@ fn replayed(log: &[u8], route: Route, plant: Option<Plant>) -> Check {
 
 /// A board that is no larger than need be for a test, or out of the limits.
 fn is_moderate(shape: &Shape) -> bool {
-    shape.frames <= 8 && shape.lines <= 64 && shape.processes <= 16 || !model::limits_hold(shape)
+    shape.frames <= 8 && shape.lines <= 64 && shape.processes <= 16 || !model::limits_hold(Edition::Ones, shape)
 }
 
 /// Brings an entry to be written by its route, and compares. Gives what happened, in words.

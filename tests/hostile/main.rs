@@ -27,6 +27,9 @@ mod rng;
 mod routes;
 mod run;
 mod self_test;
+mod set_faults;
+mod set_runs;
+mod sets;
 mod shrink;
 mod sights;
 mod trace;
@@ -34,9 +37,10 @@ mod values;
 mod walks;
 
 use apart::End;
-use coverage::Coverage;
+use coverage::{Coverage, PairCounts};
 use gen::World;
-use model::{Answer, Board};
+use limits::EDITIONS;
+use model::{Answer, Board, Edition};
 use pairs::Failure;
 use plant::Plant;
 use rng::Rng;
@@ -50,7 +54,7 @@ const USAGE: &str = "usage: hostile [--calls N] [--logs N] [--seed S] [--plant F
        hostile --replay FILE
        hostile --self-test
        hostile --largest";
-const DEFAULT_CALLS: u64 = 250_000;
+const DEFAULT_CALLS: u64 = 500_000;
 const DEFAULT_SEED: u64 = 1;
 const TRACE_FILE: &str = "hostile-trace.txt";
 
@@ -58,8 +62,8 @@ const TRACE_FILE: &str = "hostile-trace.txt";
 const CALLS_PER_LOG: u64 = 10;
 const LEAST_LOGS: u64 = 400_000;
 
-/// A pair of runs is tried after so many boards.
-const BOARDS_PER_PAIR: u64 = 40;
+/// A pair of runs in each edition is tried for so many boards.
+const BOARDS_PER_PAIR: u64 = 80;
 
 struct Options {
     calls: u64,
@@ -138,23 +142,37 @@ fn in_a_child(options: &Options) -> Result<(), String> {
 
 // ----- the search -----
 
-/// Runs boards until so many calls were made, or one run fails.
+/// Runs boards until so many calls were made, or one run fails: boards of one edition and of the other by turns.
 pub fn search(rng: &mut Rng, calls: u64, plant: Option<Plant>, coverage: &mut Coverage) -> Result<(), Failure> {
-    while coverage.calls() < calls {
+    for (edition, _) in EDITIONS.into_iter().cycle() {
+        if coverage.calls() >= calls {
+            break;
+        }
         let (start, world) = if rng.percent(25) {
-            let shape = gen::shape(rng);
-            (gen::fresh(rng, shape), World::new(rng, &shape))
+            let shape = gen::shape(rng, edition);
+            (gen::fresh(rng, edition, shape), World::new(rng, edition, &shape))
         } else {
-            gen::wild(rng)
+            gen::wild(rng, edition)
         };
         board(rng, start, &world, plant, coverage)?;
         coverage.boards += 1;
-        if coverage.boards % BOARDS_PER_PAIR == 0 {
-            pairs::pair(rng, coverage, false)?;
+        if coverage.boards % BOARDS_PER_PAIR < EDITIONS.len() as u64 {
+            pairs::pair(rng, edition, coverage, false)?;
         }
     }
     Ok(())
 }
+
+/// Planned runs in an edition: each gives how many boards there were.
+pub type Planned = fn(&mut Rng, Edition, Option<Plant>, &mut Coverage) -> Result<usize, Failure>;
+
+const PLANNED: [(Planned, &str); 5] = [
+    (edges::edges, "at the limits of P and L and past them, every call on each"),
+    (values::values, "with values at the ends of the widths, beside each number that an access gives"),
+    (places::places, "with lines at the ends of a page's places, beside them and among them"),
+    (list_runs::lists, "with lists of user accesses"),
+    (set_runs::sets, "with lines of a set found, filled and pushed out in every order"),
+];
 
 /// One run. From a fresh board it is long; on a large board every comparison costs, so it is short.
 fn board(
@@ -216,38 +234,42 @@ fn search_and_report(options: &Options) -> Result<(), String> {
     let mut rng = Rng::new(options.seed);
     let mut runs = || {
         search(&mut rng, options.calls, options.plant, &mut coverage)?;
-        let edges = edges::edges(&mut rng, options.plant, &mut coverage)?;
-        let values = values::values(&mut rng, options.plant, &mut coverage)?;
-        let places = places::places(&mut rng, options.plant, &mut coverage)?;
-        let lists = list_runs::lists(&mut rng, options.plant, &mut coverage)?;
+        let mut boards = Vec::new();
+        for (runs, words) in PLANNED {
+            let mut of = |edition| runs(&mut rng, edition, options.plant, &mut coverage);
+            boards.push((of(Edition::Ones)?, of(Edition::Fours)?, words));
+        }
         let planned = log_runs::planned(&mut rng, options.plant, &mut coverage)?;
         let logs = options.logs.unwrap_or(LEAST_LOGS.max(options.calls / CALLS_PER_LOG));
         let trips = log_runs::search(&mut rng, logs, options.plant, &mut coverage)?;
-        Ok((edges, values, places, lists, (planned, logs, trips)))
+        Ok((boards, (planned, logs, trips)))
     };
-    let (edges, values, places, lists, (planned, logs, trips)) = match runs() {
+    let (planned_boards, (planned, logs, trips)) = match runs() {
         Ok(boards) => boards,
         Err(Failure::Run(trace, difference)) => return Err(report(run::first_difference, *trace, difference)?),
         Err(Failure::Apart(traces, text)) => return Err(report_pair(&traces, &text)?),
     };
     println!("{}\n{}\n", coverage.table(), coverage.logs.table());
-    let Coverage { audits, audit_looks, pairs, pairs_hit, pairs_write_back, pairs_list, boards, .. } = coverage;
+    let (audits, audit_looks) = coverage.audits();
     println!("{} entries of pages", coverage.entries());
     println!("{} looks by themselves; {audits} audits of a fresh board with {audit_looks} looks", coverage.looks());
-    println!("{edges} boards at the limits of P and L and past them, every call on each");
-    println!("{values} boards with values at the ends of the widths, beside each number that an access gives");
-    println!("{places} boards with lines at the ends of a page's places, beside them and among them");
-    println!("{lists} boards with lists of user accesses");
+    for (ones, fours, words) in planned_boards {
+        println!("{ones} boards, and {fours} with sets of four, {words}");
+    }
     println!("{}", coverage.logs.told(planned, logs, trips));
-    println!(
-        "{pairs} pairs of runs, equal for process 0 but for marks; {pairs_hit} with a hit in one run only, \
-         {pairs_write_back} with a refill's write-back in one only, {pairs_list} with a list in which the others' differ"
-    );
+    for (edition, _) in EDITIONS {
+        let PairCounts { pairs, hit, write_back, list } = *coverage.pairs(edition);
+        println!(
+            "{pairs} pairs of runs in sets of {}, equal for process 0 but for marks; {hit} with a hit in one run only, \
+             {write_back} with a refill's write-back in one only, {list} with a list in which the others' differ",
+            limits::set_lines(edition)
+        );
+    }
     let problems = coverage.problems();
     if !problems.is_empty() {
         return Err(problems.join("\nhostile: "));
     }
-    let calls = coverage.calls();
+    let (calls, boards) = (coverage.calls(), coverage.boards);
     println!("hostile: {calls} calls on {boards} boards, all equal; every number, mark and event reached");
     Ok(())
 }
@@ -308,7 +330,7 @@ fn replay(file: &str) -> Result<(), String> {
     let text = std::fs::read_to_string(file).map_err(|error| format!("cannot read {file}: {error}"))?;
     let trace = trace::from_text(&text).map_err(|problem| format!("{file}, {problem}"))?;
     let mut run = Run::new(&trace.start, trace.plant);
-    println!("{:?}, fresh: {}", trace.start.board.shape, trace.start.fresh);
+    println!("{:?}, {}", trace.start.board.shape, trace.start.sort());
     for (index, step) in trace.steps.iter().enumerate() {
         println!("{}: {}", index + 1, trace::step_text(step));
         match run.step(step, &mut Coverage::new()) {

@@ -12,7 +12,7 @@ use crate::lists::{Item, List};
 use crate::rng::Rng;
 use crate::run::{Difference, Given, Run};
 use crate::trace::{Deed, Start, Step, Trace};
-use model::{segment_in_range, Answer, Call, Shape};
+use model::{segment_in_range, Answer, Call, Edition, Shape};
 
 const STEPS: usize = 150;
 
@@ -118,11 +118,13 @@ fn apart(call: Call, own: u64) -> Call {
 }
 
 /// One pair. With `plant`, what process 0 gets in the second run is altered: the self-test's fault.
-pub fn pair(rng: &mut Rng, coverage: &mut Coverage, plant: bool) -> Result<(), Failure> {
-    let shape = Shape { frames: 2 + rng.below(4), uncached: rng.below(2), processes: 2, lines: 1 << rng.below(4) };
-    let shape = Shape { processes: shape.processes + rng.below(2), ..shape };
-    let start = gen::fresh(rng, shape);
-    let world = World::new(rng, &shape);
+pub fn pair(rng: &mut Rng, edition: Edition, coverage: &mut Coverage, plant: bool) -> Result<(), Failure> {
+    let (frames, uncached, processes) = (2 + rng.below(4), rng.below(2), 2 + rng.below(2));
+    // Few sets of four, so that lines are pushed out.
+    let sets = 1 << rng.below(if edition == Edition::Fours { 2 } else { 4 });
+    let shape = Shape { frames, uncached, processes, lines: set_lines(edition) * sets };
+    let start = gen::fresh(rng, edition, shape);
+    let world = World::new(rng, edition, &shape);
     let own = world.segments[0];
     let mut first = Half::new(&start);
     for index in 0..STEPS {
@@ -154,14 +156,15 @@ pub fn pair(rng: &mut Rng, coverage: &mut Coverage, plant: bool) -> Result<(), F
     let audit = Step { deed: Deed::Audit, manner: gen::manner(rng) };
     first.step(audit.clone(), coverage)?;
     second.step(audit, coverage)?;
-    coverage.pairs += 1;
-    coverage.pairs_list += u64::from(second.other_list);
     let marks = |half: &Half| half.answers.iter().map(|answer| answer.mark).collect::<Vec<_>>();
     let differ = |differs: fn(u32, u32) -> bool| {
         u64::from(marks(&first).into_iter().zip(marks(&second)).any(|(one, two)| differs(one, two)))
     };
-    coverage.pairs_hit += differ(|one, two| (one == HIT) != (two == HIT));
-    coverage.pairs_write_back += differ(|one, two| one != two && one != HIT && two != HIT);
+    let counts = coverage.pairs(edition);
+    counts.pairs += 1;
+    counts.list += u64::from(second.other_list);
+    counts.hit += differ(|one, two| (one == HIT) != (two == HIT));
+    counts.write_back += differ(|one, two| one != two && one != HIT && two != HIT);
     match tells_apart(&first, &second, own) {
         Some(text) => Err(Failure::Apart(Box::new([first.trace, second.trace]), text)),
         None => Ok(()),

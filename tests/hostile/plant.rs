@@ -9,6 +9,7 @@ use crate::lists::List;
 use crate::log_faults;
 use crate::routes::{Looked, Told};
 use crate::run::Kind;
+use crate::set_faults;
 use crate::values::{fitting, Access, Whose};
 use crate::walks::{walks, Walk};
 use model::{mark, Answer, Board, Call, Event, Plain, PlainAnswer, Record};
@@ -28,6 +29,8 @@ pub enum Plant {
     Records,
     Cache,
     Memory,
+    Uses,
+    Order,
     Refused,
     TagName,
     TagSet,
@@ -46,6 +49,8 @@ pub enum Plant {
     Asks(Asks),
     Marks(Marks),
     List(list_faults::Wrong),
+    /// None: nothing is wrong in what stands in for the library.
+    Sets(Option<set_faults::Wrong>),
     /// None: what stands in for the library has no fault.
     Log(Option<log_faults::Wrong>),
     Walk(Walk),
@@ -117,11 +122,12 @@ pub fn all() -> Vec<(Plant, String)> {
 /// All that random runs on boards find: all but those of logs and the walks.
 pub fn searched() -> impl Iterator<Item = (Plant, String)> {
     let lists = FAULTS.into_iter().map(|(wrong, name, _)| (Plant::List(wrong), name));
-    PLANTS.into_iter().chain(lists).map(|(plant, name)| (plant, name.to_string()))
+    let sets = set_faults::FAULTS.iter().map(|&(wrong, name, ..)| (Plant::Sets(Some(wrong)), name));
+    PLANTS.into_iter().chain(lists).chain(sets).map(|(plant, name)| (plant, name.to_string()))
 }
 
-/// All but those in lists, in logs and in walks.
-pub const PLANTS: [(Plant, &str); 53] = [
+/// All but those in lists, in sets of four, in logs and in walks.
+pub const PLANTS: [(Plant, &str); 55] = [
     (Plant::Number, "number"),
     (Plant::Value, "value"),
     (Plant::Mark, "mark"),
@@ -135,6 +141,8 @@ pub const PLANTS: [(Plant, &str); 53] = [
     (Plant::Records, "records"),
     (Plant::Cache, "cache"),
     (Plant::Memory, "memory"),
+    (Plant::Uses, "uses"),
+    (Plant::Order, "order"),
     (Plant::Refused, "refused"),
     (Plant::TagName, "tag-name"),
     (Plant::TagSet, "tag-set"),
@@ -196,6 +204,8 @@ impl Plant {
             Plant::Slots | Plant::Words | Plant::Records | Plant::Cache | Plant::Memory | Plant::Walk(_) => {
                 Kind::Buffer
             }
+            Plant::Uses => Kind::Uses,
+            Plant::Order => Kind::Order,
             Plant::Refused => Kind::Refused,
             Plant::TagName | Plant::TagSet => Kind::Tag,
             Plant::Canary => Kind::Canary,
@@ -205,9 +215,18 @@ impl Plant {
             Plant::PlainNumber | Plant::PlainValue | Plant::PlainMemory => Kind::Plain,
             Plant::TwoCopies => Kind::TwoCopies,
             Plant::List(wrong) => wrong.found_as(),
+            Plant::Sets(wrong) => wrong.map_or(Kind::Panic, |wrong| wrong.found_as()),
             Plant::Log(wrong) => wrong.map_or(Kind::Panic, |wrong| wrong.found_as()),
             Plant::Panic => Kind::Panic,
             Plant::Signal | Plant::Hang | Plant::ReadsBehind | Plant::ReadsBefore => Kind::Signal,
+        }
+    }
+
+    /// Whether a difference of this kind is what it shows in.
+    pub fn is_found_as(self, kind: Kind) -> bool {
+        match self {
+            Plant::Sets(Some(wrong)) => wrong.is_found_as(kind),
+            _ => kind == self.found_as(),
         }
     }
 
@@ -220,6 +239,9 @@ impl Plant {
         (real, told): (&mut Real, &mut Told),
         (model, expected): (&mut Board, &mut Answer),
     ) {
+        if let Plant::Sets(wrong) = self {
+            return set_faults::after_call(wrong, call, before, real, told);
+        }
         let answer = &mut told.answer;
         match (self, event) {
             (Plant::Asks(asks), _) => *answer = asks.answer(call, answer, model),
@@ -243,6 +265,11 @@ impl Plant {
             (Plant::Records, Event::Unmapped { dropped: 1.., .. }) => flip_last(&mut real.records),
             (Plant::Cache, Event::Inserted { wrote_back: true }) => flip_last(&mut real.cache),
             (Plant::Memory, Event::Flushed { written: 1.., .. }) => flip_last(&mut real.memory),
+            (Plant::Uses, Event::Unmapped { .. }) => flip_last(&mut real.uses),
+            (Plant::Order, Event::Hit) => {
+                flip_last(&mut real.uses);
+                model.uses.last_mut().into_iter().for_each(|matrix| matrix[3][3] ^= 1);
+            }
             (Plant::Refused, Event::Refused(11)) => {
                 flip_last(&mut real.memory);
                 model.memory.copy_from_slice(real.memory.inner());
@@ -269,8 +296,10 @@ impl Plant {
         library: (&mut Real, &mut Lists, &mut Told),
         expected: &mut [Answer],
     ) {
-        if let Plant::List(wrong) = self {
-            wrong.after_list(list, before, library, expected);
+        match self {
+            Plant::List(wrong) => wrong.after_list(list, before, library, expected),
+            Plant::Sets(wrong) => set_faults::after_list(wrong, list, before, library.0, library.2),
+            _ => {}
         }
     }
 
@@ -287,7 +316,11 @@ impl Plant {
         }
     }
 
-    pub fn after_look(self, real: &mut Real, looked: &mut Looked) {
+    /// After a look at a line on this board; the lowest record that holds it.
+    pub fn after_look(self, board: &Board, holder: Option<u64>, real: &mut Real, looked: &mut Looked) {
+        if let Plant::Sets(Some(wrong)) = self {
+            wrong.after_look(board, holder, real);
+        }
         match (self, &mut looked.bytes) {
             (Plant::LookPlace, Some((at, _))) if real.cache.inner().as_ptr_range().contains(at) => {
                 *at = at.wrapping_add(16);

@@ -1,12 +1,12 @@
 //! The four routes to the library: the raw declarations of the Rust crate; the C header's functions over each number and
 //! buffer, and those over a board (both by through.c); and the safe Rust crate. Each brings one call, one list or one look to
-//! the board of `Real`, or asks for the entry of a page, of no board.
+//! the board of `Real`, by the functions of its edition, or asks for the entry of a page, of no board.
 
 use crate::guarded::{Guarded, Lists, Real};
-use crate::limits::{ACCESS_WORDS, FRAMES_MAX, HIT, LINES_MAX, LINE_BYTES, PROCESSES_MAX};
+use crate::limits::{set_lines, ACCESS_WORDS, FRAMES_MAX, HIT, LINES_MAX, LINE_BYTES, MATRIX_BYTES, PROCESSES_MAX};
 use crate::lists::{Item, List};
 use crate::log_routes;
-use model::{Answer, Call, Shape};
+use model::{Answer, Call, Edition, Shape};
 use oaledva::{ffi, Lent, Mark, Refusal};
 
 #[derive(Clone, Copy, Debug, PartialEq, Eq)]
@@ -40,29 +40,37 @@ impl Manner {
         }
     }
 
-    fn by_board(&self) -> bool {
-        self.route == Route::Board
+    /// Which of the header's functions it is brought by.
+    pub fn way(&self, edition: Edition) -> Way {
+        Way { sets: edition == Edition::Fours, by_board: self.route == Route::Board }
     }
 }
 
-/// A function of the raw declarations, on the shape and the five buffers of a board, then the arguments.
+/// A function of the raw declarations, on the shape and the buffers of a board, then the arguments: that of 01's edition, or that
+/// of sets of four.
 macro_rules! raw {
-    ($board:expr, $name:ident $(, $argument:expr)*) => {
+    ($edition:expr, $board:expr, $ones:ident / $fours:ident $(, $argument:expr)*) => {
+        match $edition {
+            Edition::Ones => raw!(@ $board, $ones $(, $argument)*),
+            Edition::Fours => raw!(@ $board, $fours, $board.uses, $board.uses_length $(, $argument)*),
+        }
+    };
+    (@ $board:expr, $name:ident $(, $argument:expr)*) => {
         ffi::$name(
-            $board.frames,
-            $board.uncached,
-            $board.processes,
-            $board.lines,
-            $board.slots,
-            $board.slots_length,
-            $board.words,
-            $board.words_length,
-            $board.records,
-            $board.records_length,
-            $board.cache,
-            $board.cache_length,
-            $board.memory,
-            $board.memory_length
+            $board.common.frames,
+            $board.common.uncached,
+            $board.common.processes,
+            $board.common.lines,
+            $board.common.slots,
+            $board.common.slots_length,
+            $board.common.words,
+            $board.common.words_length,
+            $board.common.records,
+            $board.common.records_length,
+            $board.common.cache,
+            $board.common.cache_length,
+            $board.common.memory,
+            $board.common.memory_length
             $(, $argument)*
         )
     };
@@ -105,7 +113,7 @@ pub struct Looked {
 /// The mirror of `oaledva_board` in include/oaledva.h, its tag as the two words of it.
 #[repr(C)]
 #[derive(Clone, Copy, Debug, PartialEq, Eq)]
-pub struct CBoard {
+struct CCommon {
     frames: usize,
     uncached: usize,
     processes: usize,
@@ -124,10 +132,34 @@ pub struct CBoard {
     name: u64,
 }
 
+/// The mirror of `oaledva_sets_board`. A board of 01's edition is its common part.
+#[repr(C)]
+#[derive(Clone, Copy, Debug, PartialEq, Eq)]
+pub struct CBoard {
+    common: CCommon,
+    uses: *mut ffi::Uses,
+    uses_length: usize,
+}
+
+/// The mirror of `through_way` in through.c.
+#[repr(C)]
+#[derive(Clone, Copy)]
+pub struct Way {
+    sets: bool,
+    by_board: bool,
+}
+
 impl CBoard {
     pub fn of(real: &mut Real, null: bool) -> CBoard {
+        let common = CCommon::of(real, null);
+        CBoard { common, uses: real.uses.pointer(null).cast(), uses_length: real.uses.len() / MATRIX_BYTES }
+    }
+}
+
+impl CCommon {
+    fn of(real: &mut Real, null: bool) -> CCommon {
         let (set, name) = real.tag();
-        CBoard {
+        CCommon {
             frames: real.shape.frames as usize,
             uncached: real.shape.uncached as usize,
             processes: real.shape.processes as usize,
@@ -166,37 +198,32 @@ struct CEntry {
 #[link(name = "through", kind = "static")]
 extern "C" {
     fn through_board_bytes() -> usize;
+    fn through_sets_board_bytes() -> usize;
     fn through_constants(constants: *mut [usize; CONSTANTS]);
-    fn through_lengths(frames: usize, processes: usize, lines: usize, lengths: *mut [usize; 5]);
+    fn through_lengths(frames: usize, processes: usize, lines: usize, lengths: *mut [usize; 6]);
     fn through_user_access(
         b: *mut CBoard,
-        by_board: bool,
+        way: Way,
         process: usize,
         store: u32,
         width: u32,
         at: u32,
         value: u32,
     ) -> CAnswer;
-    fn through_supervisor_access(
-        b: *mut CBoard,
-        by_board: bool,
-        store: u32,
-        width: u32,
-        address: u64,
-        value: u32,
-    ) -> CAnswer;
-    fn through_attach(b: *mut CBoard, by_board: bool, process: usize, slot: usize, segment: u64, write: u32)
+    fn through_supervisor_access(b: *mut CBoard, way: Way, store: u32, width: u32, address: u64, value: u32)
         -> CAnswer;
-    fn through_detach(b: *mut CBoard, by_board: bool, process: usize, slot: usize) -> CAnswer;
-    fn through_map(b: *mut CBoard, by_board: bool, page: u64, frame: usize, write: u32) -> CAnswer;
-    fn through_unmap(b: *mut CBoard, by_board: bool, page: u64) -> CAnswer;
-    fn through_protect(b: *mut CBoard, by_board: bool, page: u64, write: u32) -> CAnswer;
-    fn through_flush_all(b: *mut CBoard, by_board: bool) -> CAnswer;
-    fn through_tag(b: *mut CBoard, by_board: bool, line: u64) -> CAnswer;
-    fn through_load_and_map(b: *mut CBoard, by_board: bool, line: usize) -> CAnswer;
-    fn through_drop_tag(b: *mut CBoard, by_board: bool) -> CAnswer;
+    fn through_attach(b: *mut CBoard, way: Way, process: usize, slot: usize, segment: u64, write: u32) -> CAnswer;
+    fn through_detach(b: *mut CBoard, way: Way, process: usize, slot: usize) -> CAnswer;
+    fn through_map(b: *mut CBoard, way: Way, page: u64, frame: usize, write: u32) -> CAnswer;
+    fn through_unmap(b: *mut CBoard, way: Way, page: u64) -> CAnswer;
+    fn through_protect(b: *mut CBoard, way: Way, page: u64, write: u32) -> CAnswer;
+    fn through_flush_all(b: *mut CBoard, way: Way) -> CAnswer;
+    fn through_tag(b: *mut CBoard, way: Way, line: u64) -> CAnswer;
+    fn through_load_and_map(b: *mut CBoard, way: Way, line: usize) -> CAnswer;
+    fn through_drop_tag(b: *mut CBoard, way: Way) -> CAnswer;
     fn through_user_accesses(
         b: *mut CBoard,
+        way: Way,
         accesses: *const u32,
         accesses_length: usize,
         answers: *mut u64,
@@ -204,6 +231,7 @@ extern "C" {
     ) -> CAnswer;
     fn through_board_accesses(
         b: *mut CBoard,
+        way: Way,
         accesses: *const ffi::Access,
         accesses_length: usize,
         answers: *mut u64,
@@ -212,16 +240,16 @@ extern "C" {
     fn through_make_access(access: *mut ffi::Access, process: usize, store: bool, width: u32, address: u32, value: u32);
     fn through_access_words() -> usize;
     fn through_unpacked(packed: u64) -> CAnswer;
-    fn through_look(b: *mut CBoard, by_board: bool, line: usize) -> *const u8;
-    fn through_look_number(b: *mut CBoard, by_board: bool, line: usize) -> u32;
+    fn through_look(b: *mut CBoard, way: Way, line: usize) -> *const u8;
+    fn through_look_number(b: *mut CBoard, way: Way, line: usize) -> u32;
     fn through_entry_of_page(page: u64) -> CEntry;
 }
 
 /// How many of the header's names are compared.
-const CONSTANTS: usize = 23;
+const CONSTANTS: usize = 24;
 
-/// The refusal numbers by the names of the Rust crate, from 1 to 13, and its marks, from 0 to 4; then the limits, and how many
-/// words an access has, by the documents.
+/// The refusal numbers by the names of the Rust crate, from 1 to 13, and its marks, from 0 to 4; then the limits, how many words
+/// an access has, and how many lines a set of four, by the documents.
 fn constants() -> [usize; CONSTANTS] {
     let refusals = [
         Refusal::Shape,
@@ -239,7 +267,7 @@ fn constants() -> [usize; CONSTANTS] {
         Refusal::OtherLine,
     ];
     let marks = [Mark::NoAccess, Mark::Hit, Mark::Refilled, Mark::WroteBack, Mark::Uncached];
-    let limits = [FRAMES_MAX, PROCESSES_MAX, LINES_MAX, LINE_BYTES, ACCESS_WORDS as u64];
+    let limits = [FRAMES_MAX, PROCESSES_MAX, LINES_MAX, LINE_BYTES, ACCESS_WORDS as u64, set_lines(Edition::Fours)];
     let numbers = refusals.map(Refusal::number).into_iter().chain(marks.map(Mark::number)).map(u64::from);
     let mut all = [0; CONSTANTS];
     for (constant, number) in all.iter_mut().zip(numbers.chain(limits)) {
@@ -250,9 +278,13 @@ fn constants() -> [usize; CONSTANTS] {
 
 /// What the header says of sizes and numbers, against the mirror above and the model's fresh board. Gives what disagrees.
 pub fn header_disagrees() -> Option<String> {
-    let (theirs, ours) = (unsafe { through_board_bytes() }, std::mem::size_of::<CBoard>());
+    let (theirs, ours) = (unsafe { through_board_bytes() }, std::mem::size_of::<CCommon>());
     if theirs != ours {
         return Some(format!("oaledva_board has {theirs} bytes, the test's mirror of it {ours}"));
+    }
+    let (theirs, ours) = (unsafe { through_sets_board_bytes() }, std::mem::size_of::<CBoard>());
+    if theirs != ours {
+        return Some(format!("oaledva_sets_board has {theirs} bytes, the test's mirror of it {ours}"));
     }
     let theirs = unsafe { through_access_words() };
     if theirs != ACCESS_WORDS || ffi::ACCESS_WORDS != ACCESS_WORDS {
@@ -260,6 +292,10 @@ pub fn header_disagrees() -> Option<String> {
             "an access has {theirs} words in C, {} in Rust, {ACCESS_WORDS} by CR 12",
             ffi::ACCESS_WORDS
         ));
+    }
+    let (theirs, ours) = (oaledva::SET_LINES as u64, set_lines(Edition::Fours));
+    if theirs != ours {
+        return Some(format!("a set has {theirs} lines in Rust, {ours} by CR 4"));
     }
     let mut theirs = [0; CONSTANTS];
     unsafe { through_constants(&mut theirs) };
@@ -270,9 +306,11 @@ pub fn header_disagrees() -> Option<String> {
     if let Some(problem) = log_routes::header_disagrees() {
         return Some(problem);
     }
-    let fresh = model::Board::fresh(Shape { frames: 3, uncached: 1, processes: 2, lines: 8 }).lengths();
-    let ours = [fresh.slots, fresh.words, fresh.records, fresh.cache, fresh.memory].map(|length| length as usize);
-    let mut theirs = [0; 5];
+    let shape = Shape { frames: 3, uncached: 1, processes: 2, lines: 8 };
+    let fresh = model::Board::fresh_of(Edition::Fours, shape).lengths();
+    let ours = [fresh.slots, fresh.words, fresh.records, fresh.cache, fresh.memory, fresh.uses];
+    let ours = ours.map(|length| length as usize);
+    let mut theirs = [0; 6];
     unsafe { through_lengths(3, 2, 8, &mut theirs) };
     (theirs != ours).then(|| format!("the header's lengths are {theirs:?}, the model's {ours:?}"))
 }
@@ -287,7 +325,7 @@ pub fn safe_can_carry(real: &Real) -> bool {
 pub fn call(real: &mut Real, call: &Call, manner: &Manner) -> Result<Told, String> {
     match manner.route {
         Route::Raw => Ok(unsafe { raw_call(real, call, manner) }),
-        Route::Header | Route::Board => caged(real, manner, |board| unsafe { c_call(board, call, manner) }),
+        Route::Header | Route::Board => caged(real, manner, |board, way| unsafe { c_call(board, way, call, manner) }),
         Route::Safe => Ok(safe_call(real, call)),
     }
 }
@@ -333,18 +371,31 @@ pub fn list(real: &mut Real, lists: &mut Lists, manner: &Manner) -> Result<Told,
     match manner.route {
         Route::Raw => {
             let b = CBoard::of(real, manner.null);
+            let (set, name, answers) = (b.common.set, b.common.name, answers.cast());
             // Safety: the buffers are as long as is said, apart from each other and from the board's.
-            let answer =
-                unsafe { raw!(b, oaledva_user_accesses, b.set, b.name, accesses, words, answers.cast(), room) };
+            let answer = unsafe {
+                raw!(
+                    real.edition,
+                    b,
+                    oaledva_user_accesses / oaledva_sets_user_accesses,
+                    set,
+                    name,
+                    accesses,
+                    words,
+                    answers,
+                    room
+                )
+            };
             Ok(Told { answer: answer_of(answer), hit: None, packed: None })
         }
         Route::Header => {
-            let call = |board| unsafe { through_user_accesses(board, accesses, words, answers, room) };
+            let call = |board, way| unsafe { through_user_accesses(board, way, accesses, words, answers, room) };
             caged(real, manner, call).map(told_in_c)
         }
         Route::Board => {
             let count = words / ACCESS_WORDS;
-            let call = |board| unsafe { through_board_accesses(board, accesses.cast(), count, answers, room) };
+            let call =
+                |board, way| unsafe { through_board_accesses(board, way, accesses.cast(), count, answers, room) };
             caged(real, manner, call).map(told_in_c)
         }
         Route::Safe => {
@@ -383,15 +434,16 @@ pub fn look(real: &mut Real, line: u64, manner: &Manner) -> Result<Looked, Strin
     match manner.route {
         Route::Raw => {
             let board = CBoard::of(real, manner.null);
-            let bytes = match unsafe { raw!(board, oaledva_look, line) }.stands() {
-                ffi::Stands::InCache(at) => Some(board.cache.wrapping_add(at)),
-                ffi::Stands::InMemory(at) => Some(board.memory.wrapping_add(at)),
+            let place = unsafe { raw!(real.edition, board, oaledva_look / oaledva_sets_look, line) };
+            let bytes = match place.stands() {
+                ffi::Stands::InCache(at) => Some(board.common.cache.wrapping_add(at)),
+                ffi::Stands::InMemory(at) => Some(board.common.memory.wrapping_add(at)),
                 ffi::Stands::Nowhere => None,
             };
             Ok(Looked { number: None, bytes: bytes.map(|at| (at.cast_const(), oaledva::LINE_BYTES)) })
         }
         Route::Header | Route::Board => {
-            let at = caged(real, manner, |board| unsafe { through_look(board, manner.by_board(), line) })?;
+            let at = caged(real, manner, |board, way| unsafe { through_look(board, way, line) })?;
             Ok(Looked { number: None, bytes: (!at.is_null()).then_some((at, oaledva::LINE_BYTES)) })
         }
         Route::Safe => Ok(match lent(real).look(line) {
@@ -406,10 +458,10 @@ pub fn look_number(real: &mut Real, line: u64, manner: &Manner) -> Result<u32, S
     match manner.route {
         Route::Raw => {
             let board = CBoard::of(real, manner.null);
-            Ok(unsafe { raw!(board, oaledva_look_number, line) }.number)
+            Ok(unsafe { raw!(real.edition, board, oaledva_look_number / oaledva_sets_look_number, line) }.number)
         }
         Route::Header | Route::Board => {
-            caged(real, manner, |board| unsafe { through_look_number(board, manner.by_board(), line) })
+            caged(real, manner, |board, way| unsafe { through_look_number(board, way, line) })
         }
         Route::Safe => Ok(lent(real).look_number(line)),
     }
@@ -438,26 +490,57 @@ pub fn entry(page: u64, route: Route) -> (u32, u64) {
 unsafe fn raw_call(real: &mut Real, call: &Call, manner: &Manner) -> Told {
     let b = CBoard::of(real, manner.null);
     let (set, name) = (real.set.pointer(false), real.name.pointer(false));
+    let (pending, pending_name) = (b.common.set, b.common.name);
     let kind = |store| ffi::Kind { store: manner.flag(store) };
     let permission = |write| ffi::Permission { write: manner.flag(write) };
+    /// The functions of this name in either edition.
+    macro_rules! of {
+        ($ones:ident / $fours:ident $(, $argument:expr)*) => { raw!(real.edition, b, $ones / $fours $(, $argument)*) };
+    }
     let answer = match *call {
         Call::UserAccess { process, store, width, address, value } => {
-            raw!(b, oaledva_user_access, b.set, b.name, process as usize, kind(store), width, address, value)
+            let (process, kind) = (process as usize, kind(store));
+            of!(
+                oaledva_user_access / oaledva_sets_user_access,
+                pending,
+                pending_name,
+                process,
+                kind,
+                width,
+                address,
+                value
+            )
         }
         Call::SupervisorAccess { store, width, global, value } => {
-            raw!(b, oaledva_supervisor_access, b.set, b.name, kind(store), width, global, value)
+            let kind = kind(store);
+            of!(
+                oaledva_supervisor_access / oaledva_sets_supervisor_access,
+                pending,
+                pending_name,
+                kind,
+                width,
+                global,
+                value
+            )
         }
         Call::Attach { process, slot, segment, write } => {
-            raw!(b, oaledva_attach, process as usize, slot as usize, segment, permission(write))
+            let (process, slot) = (process as usize, slot as usize);
+            of!(oaledva_attach / oaledva_sets_attach, process, slot, segment, permission(write))
         }
-        Call::Detach { process, slot } => raw!(b, oaledva_detach, process as usize, slot as usize),
-        Call::Map { page, frame, write } => raw!(b, oaledva_map, page, frame as usize, permission(write)),
-        Call::Unmap { page } => raw!(b, oaledva_unmap, page),
-        Call::Protect { page, write } => raw!(b, oaledva_protect, page, permission(write)),
-        Call::FlushAll => raw!(b, oaledva_flush_all),
-        Call::Tag { name: line } => raw!(b, oaledva_tag, set, name, line),
-        Call::LoadAndMap { line } => raw!(b, oaledva_load_and_map, set, name, line as usize),
-        Call::DropTag => raw!(b, oaledva_drop_tag, set, name),
+        Call::Detach { process, slot } => {
+            of!(oaledva_detach / oaledva_sets_detach, process as usize, slot as usize)
+        }
+        Call::Map { page, frame, write } => {
+            of!(oaledva_map / oaledva_sets_map, page, frame as usize, permission(write))
+        }
+        Call::Unmap { page } => of!(oaledva_unmap / oaledva_sets_unmap, page),
+        Call::Protect { page, write } => of!(oaledva_protect / oaledva_sets_protect, page, permission(write)),
+        Call::FlushAll => of!(oaledva_flush_all / oaledva_sets_flush_all),
+        Call::Tag { name: line } => of!(oaledva_tag / oaledva_sets_tag, set, name, line),
+        Call::LoadAndMap { line } => {
+            of!(oaledva_load_and_map / oaledva_sets_load_and_map, set, name, line as usize)
+        }
+        Call::DropTag => of!(oaledva_drop_tag / oaledva_sets_drop_tag, set, name),
     };
     Told { answer: answer_of(answer), hit: None, packed: None }
 }
@@ -488,7 +571,8 @@ impl Cage {
         if self.front != BARS || self.back != BARS {
             return Err("bytes around the C board were written".into());
         }
-        if (CBoard { set: before.set, name: before.name, ..self.board }) != *before {
+        let tagless = |board: &CBoard| CBoard { common: CCommon { set: 0, name: 0, ..board.common }, ..*board };
+        if tagless(&self.board) != tagless(before) {
             return Err("the C board's numbers, pointers or lengths were written".into());
         }
         Ok(())
@@ -496,11 +580,11 @@ impl Cage {
 }
 
 /// Lends C a board in a cage, and takes its tag back.
-fn caged<T>(real: &mut Real, manner: &Manner, call: impl FnOnce(*mut CBoard) -> T) -> Result<T, String> {
+fn caged<T>(real: &mut Real, manner: &Manner, call: impl FnOnce(*mut CBoard, Way) -> T) -> Result<T, String> {
     let before = CBoard::of(real, manner.null);
     let mut cage = Cage { front: BARS, board: before, back: BARS };
-    let result = call(&mut cage.board);
-    real.set_tag(cage.board.set, cage.board.name);
+    let result = call(&mut cage.board, manner.way(real.edition));
+    real.set_tag(cage.board.common.set, cage.board.common.name);
     cage.check(&before).map(|()| result)
 }
 
@@ -514,31 +598,32 @@ pub fn cage_shows(real: &mut Real) -> bool {
     };
     shows(|cage| cage.front[7] ^= 1)
         && shows(|cage| cage.back[0] ^= 1)
-        && shows(|cage| cage.board.lines += 1)
-        && shows(|cage| cage.board.memory_length += 1)
-        && !shows(|cage| cage.board.name ^= 1)
+        && shows(|cage| cage.board.common.lines += 1)
+        && shows(|cage| cage.board.common.memory_length += 1)
+        && shows(|cage| cage.board.uses = cage.board.uses.wrapping_add(1))
+        && shows(|cage| cage.board.uses_length += 1)
+        && !shows(|cage| cage.board.common.name ^= 1)
 }
 
-unsafe fn c_call(b: *mut CBoard, call: &Call, manner: &Manner) -> Told {
-    let by_board = manner.by_board();
+unsafe fn c_call(b: *mut CBoard, way: Way, call: &Call, manner: &Manner) -> Told {
     told_in_c(match *call {
         Call::UserAccess { process, store, width, address, value } => {
-            through_user_access(b, by_board, process as usize, manner.flag(store), width, address, value)
+            through_user_access(b, way, process as usize, manner.flag(store), width, address, value)
         }
         Call::SupervisorAccess { store, width, global, value } => {
-            through_supervisor_access(b, by_board, manner.flag(store), width, global, value)
+            through_supervisor_access(b, way, manner.flag(store), width, global, value)
         }
         Call::Attach { process, slot, segment, write } => {
-            through_attach(b, by_board, process as usize, slot as usize, segment, manner.flag(write))
+            through_attach(b, way, process as usize, slot as usize, segment, manner.flag(write))
         }
-        Call::Detach { process, slot } => through_detach(b, by_board, process as usize, slot as usize),
-        Call::Map { page, frame, write } => through_map(b, by_board, page, frame as usize, manner.flag(write)),
-        Call::Unmap { page } => through_unmap(b, by_board, page),
-        Call::Protect { page, write } => through_protect(b, by_board, page, manner.flag(write)),
-        Call::FlushAll => through_flush_all(b, by_board),
-        Call::Tag { name } => through_tag(b, by_board, name),
-        Call::LoadAndMap { line } => through_load_and_map(b, by_board, line as usize),
-        Call::DropTag => through_drop_tag(b, by_board),
+        Call::Detach { process, slot } => through_detach(b, way, process as usize, slot as usize),
+        Call::Map { page, frame, write } => through_map(b, way, page, frame as usize, manner.flag(write)),
+        Call::Unmap { page } => through_unmap(b, way, page),
+        Call::Protect { page, write } => through_protect(b, way, page, manner.flag(write)),
+        Call::FlushAll => through_flush_all(b, way),
+        Call::Tag { name } => through_tag(b, way, name),
+        Call::LoadAndMap { line } => through_load_and_map(b, way, line as usize),
+        Call::DropTag => through_drop_tag(b, way),
     })
 }
 
@@ -552,15 +637,17 @@ fn lent(real: &mut Real) -> Lent<'_> {
         processes: real.shape.processes as usize,
         lines: real.shape.lines as usize,
     };
-    Lent::over(
-        shape,
-        real.slots.inner_mut(),
-        real.words.inner_mut(),
-        real.records.inner_mut(),
-        real.cache.inner_mut(),
-        real.memory.inner_mut(),
-        (set != 0).then_some(name),
-    )
+    let (slots, words, records) = (real.slots.inner_mut(), real.words.inner_mut(), real.records.inner_mut());
+    let (cache, memory, pending) = (real.cache.inner_mut(), real.memory.inner_mut(), (set != 0).then_some(name));
+    match real.edition {
+        Edition::Ones => Lent::over(shape, slots, words, records, cache, memory, pending),
+        Edition::Fours => {
+            let (count, uses) = (real.uses.len() / MATRIX_BYTES, real.uses.inner_mut().as_mut_ptr().cast());
+            // Safety: the bytes of so many matrices, which have no alignment, borrowed with the board.
+            let uses = unsafe { std::slice::from_raw_parts_mut(uses, count) };
+            Lent::over_sets_of_four(shape, slots, words, records, cache, memory, uses, pending)
+        }
+    }
 }
 
 fn safe_call(real: &mut Real, call: &Call) -> Told {

@@ -2,18 +2,20 @@
 
 use crate::apart;
 use crate::cases::{self, Facts};
-use crate::coverage::{self, Coverage};
+use crate::coverage::{self, Coverage, Sort};
 use crate::guarded::{Element, Lists, Real};
-use crate::limits::{line_bytes, LINES_PER_PAGE};
-use crate::lists::{List, Tally};
+use crate::limits::{line_bytes, matrix_bytes, LINES_PER_PAGE};
+use crate::lists::{Did, List, Tally};
 use crate::logs::{self, Written};
 use crate::marks;
 use crate::plant::Plant;
 use crate::routes::{self, Manner, Route};
+use crate::sets::{self, By};
 use crate::sights;
 use crate::trace::{Deed, Start, Step, Trace};
 use crate::values;
-use model::{Answer, Board, Call, Event, Plain, PlainAnswer, Record};
+use model::{Answer, Board, Call, Event, Matrix, Plain, PlainAnswer, Record};
+use std::collections::HashMap;
 use std::fmt::Display;
 use std::panic::{catch_unwind, AssertUnwindSafe};
 
@@ -26,6 +28,8 @@ pub enum Kind {
     Form,
     Canary,
     Buffer,
+    Uses,
+    Order,
     Tag,
     Accesses,
     Answers,
@@ -93,13 +97,13 @@ const NO_ANSWER: Answer = Answer { number: 255, value: 0, mark: 0 };
 struct Seen {
     number: u32,
     line: u64,
-    /// How many records hold the line, and the place of the lowest.
+    /// How many records hold the line, and the lowest.
     holders: usize,
     lowest: Option<u64>,
 }
 
 pub struct Run {
-    fresh: bool,
+    sort: Sort,
     pub model: Board,
     plain: Option<Plain>,
     /// The buffers after the last call that was done: what a refused one must leave.
@@ -116,7 +120,7 @@ impl Run {
         apart::begin();
         let model = start.board.clone();
         Run {
-            fresh: start.fresh,
+            sort: start.sort(),
             plain: start.fresh.then(|| Plain::of(&model)),
             kept: model.clone(),
             real: Real::of(&model, &start.offsets),
@@ -170,10 +174,12 @@ impl Run {
 
     fn call(&mut self, call: &Call, manner: &Manner, coverage: &mut Coverage) -> Result<Given, Difference> {
         let facts = Facts::before(&self.model, call);
+        let set = sets::Facts::before(&self.model, call, false);
+        let left = sets::left(&self.model, call);
         let met = sights::met(&self.model, call);
         let mut cases = cases::manner_cases(&self.model, call, manner);
         let (mut expected, event) = self.model.step(call);
-        let (set, _) = self.real.tag();
+        let (tagged, _) = self.real.tag();
         let outcome = routes::call(&mut self.real, call, manner);
         let mut told = outcome.map_err(|text| differs(Kind::Canary, text))?;
         if let Some(plant) = self.plant {
@@ -195,19 +201,44 @@ impl Run {
         if let Some(text) = told.disagrees() {
             return Err(differs(Kind::Form, text));
         }
-        self.same_tag(set)?;
+        self.same_tag(tagged)?;
         self.same_buffers(answer.number != 0)?;
         self.same_as_plain(call, &answer, event)?;
         cases.extend(cases::cases_of(&facts, call, event));
-        coverage.count(self.fresh, &deed, manner.route, answer.number, &cases);
-        coverage.count_mark(self.fresh, manner.route, marked);
+        coverage.count(self.sort, &deed, manner.route, answer.number, &cases);
+        coverage.count_mark(self.sort, manner.route, marked);
+        if let Some(set) = set {
+            let after = self.model.uses[set.place()];
+            self.count_set(&set, event, &after, manner.route, coverage)?;
+        }
         if answer.number == 0 {
-            coverage.count_sights(self.fresh, manner.route, self.model.shape.lines, &met);
+            coverage.count_sights(self.sort, manner.route, self.model.shape.lines, &met);
+            for by in left {
+                coverage.count_set(self.sort, manner.route, by, &[sets::Sight::Leaves], None);
+            }
         }
         if let Some(tried) = values::tried(&self.model, call, event, answer.number) {
-            coverage.count_value(self.fresh, manner.route, tried);
+            coverage.count_value(self.sort, manner.route, tried);
         }
         Ok(Given::Call(answer, event))
+    }
+
+    /// What an access or a load-and-map met in its set, which has this matrix after it. From a fresh board, the matrix after a use
+    /// is that of the order of uses, whatever the model says.
+    fn count_set(
+        &self,
+        set: &sets::Facts,
+        event: Event,
+        after: &Matrix,
+        route: Route,
+        coverage: &mut Coverage,
+    ) -> Check {
+        let (by, met) = set.sights(event);
+        let used = set.used(event).filter(|_| self.sort.fresh);
+        let change = used.map(|line| sets::change(set.matrix(), line, after)).transpose();
+        let change = change.map_err(|text| differs(Kind::Order, text))?;
+        coverage.count_set(self.sort, route, by, &met, change);
+        Ok(())
     }
 
     // ----- lists -----
@@ -218,8 +249,12 @@ impl Run {
         }
         let mut lists = routes::lend(list, manner.route).map_err(|text| differs(Kind::Form, text))?;
         let mut expected = vec![NO_ANSWER; list.answers];
-        let (own, events) = self.model.list(&list.words(), &mut expected);
-        let (set, _) = self.real.tag();
+        let (mut records, mut before) = (Vec::new(), Vec::new());
+        let (own, events) = self.model.list_seen(&list.words(), &mut expected, |board, call| {
+            records.push(cases::name_of_call(board, call).map(|name| board.record_for(name)));
+            before.push(sets::Facts::before(board, call, true));
+        });
+        let (tagged, _) = self.real.tag();
         let outcome = routes::list(&mut self.real, &mut lists, &manner);
         let mut told = outcome.map_err(|text| differs(Kind::Canary, text))?;
         if let Some(plant) = self.plant {
@@ -237,15 +272,35 @@ impl Run {
         if let Some(text) = told.disagrees() {
             return Err(differs(Kind::Form, text));
         }
-        self.same_tag(set)?;
+        self.same_tag(tagged)?;
         let answers = if answer.number == 0 { &expected[..] } else { &[] };
         self.same_lists(list, &lists, answers, manner.route)?;
-        let tally = Tally::of(list, &manner, &self.kept, &events);
+        let did: Vec<Did> = events.iter().copied().zip(records).collect();
+        let tally = Tally::of(list, &manner, &self.kept, &did);
         self.same_buffers(answer.number != 0)?;
         self.same_list_as_plain(list, &answer, answers)?;
-        coverage.count_list(self.fresh, manner.route, answer.number, &tally);
-        coverage.count_mark(self.fresh, manner.route, marked);
+        coverage.count_list(self.sort, manner.route, answer.number, &tally);
+        coverage.count_mark(self.sort, manner.route, marked);
+        self.count_sets(&before, &events, manner.route, coverage)?;
         Ok(Given::List(answer, answers.iter().copied().zip(events).collect()))
+    }
+
+    /// What the accesses of a list met in their sets. A set's matrix after an access is the one before the next access to the set,
+    /// or after the list.
+    fn count_sets(
+        &self,
+        before: &[Option<sets::Facts>],
+        events: &[Event],
+        route: Route,
+        coverage: &mut Coverage,
+    ) -> Check {
+        let mut next = HashMap::new();
+        for (set, &event) in before.iter().zip(events).rev() {
+            let Some(set) = set else { continue };
+            let after = next.insert(set.place(), *set.matrix()).unwrap_or(self.model.uses[set.place()]);
+            self.count_set(set, event, &after, route, coverage)?;
+        }
+        Ok(())
     }
 
     /// A list's own buffers: nothing around them was written, nor the accesses; the answers are these, each as the route reads
@@ -315,6 +370,7 @@ impl Run {
             self.kept.records.copy_from_slice(&self.model.records);
             self.kept.cache.copy_from_slice(&self.model.cache);
             self.kept.memory.copy_from_slice(&self.model.memory);
+            self.kept.uses.copy_from_slice(&self.model.uses);
             self.kept.tag = self.model.tag;
         }
         Ok(())
@@ -326,6 +382,8 @@ impl Run {
         same_buffer(kind, "records", self.real.records.inner(), &board.records, whose)?;
         same_buffer(kind, "cache", self.real.cache.inner(), &board.cache, whose)?;
         same_buffer(kind, "memory", self.real.memory.inner(), &board.memory, whose)?;
+        let of_uses = if kind == Kind::Buffer { Kind::Uses } else { kind };
+        same_buffer(of_uses, "uses", self.real.uses.inner(), matrix_bytes(&board.uses), whose)?;
         let (set, name) = self.real.tag();
         same(kind, "a tag is pending", set != 0, board.tag.0, whose)?;
         same(kind, "the tag's name", name, board.tag.1, whose)
@@ -352,26 +410,26 @@ impl Run {
 
     // ----- looks -----
 
-    /// The number of a look at this line, by 01, and the places whose records hold it.
+    /// The number of a look at this line, by 01, and the records that hold it.
     fn holders(&self, line: u64) -> (u32, Vec<u64>) {
         if !self.model.fits() {
             (1, Vec::new())
         } else if line >= LINES_PER_PAGE * self.model.shape.frames {
             (2, Vec::new())
         } else {
-            let holds = |place: &u64| self.model.held(*place).is_some_and(|record| record.line == line);
-            (0, (0..self.model.shape.lines).filter(holds).collect())
+            let holds = |at: &u64| self.model.held(*at).is_some_and(|record| record.line == line);
+            (0, self.model.all_records().filter(holds).collect())
         }
     }
 
-    /// Looks by a route. Where it is done, the sixteen bytes must stand in the caller's own buffer: in the cache bytes at
-    /// the lowest place that holds the line, else in memory.
+    /// Looks by a route. Where it is done, the sixteen bytes must stand in the caller's own buffer: in the cache bytes of the
+    /// lowest record that holds the line, else in memory.
     fn looked(&mut self, line: u64, manner: &Manner) -> Result<Seen, Difference> {
         let (number, holders) = self.holders(line);
         let outcome = routes::look(&mut self.real, line, manner);
         let mut looked = outcome.map_err(|text| differs(Kind::Canary, text))?;
         if let Some(plant) = self.plant {
-            plant.after_look(&mut self.real, &mut looked);
+            plant.after_look(&self.model, holders.first().copied(), &mut self.real, &mut looked);
         }
         if let Some(told) = looked.number {
             same(Kind::Look, "look's number", told, number, "01")?;
@@ -395,7 +453,7 @@ impl Run {
     /// The bytes of a physical line that is seen, on the library's board.
     fn bytes_of(&self, seen: &Seen) -> &[u8] {
         let (bytes, index) = match seen.lowest {
-            Some(place) => (self.real.cache.inner(), place),
+            Some(at) => (self.real.cache.inner(), at),
             None => (self.real.memory.inner(), seen.line),
         };
         &bytes[line_bytes(index)]
@@ -411,7 +469,10 @@ impl Run {
             cases = cases::look_cases(seen.holders);
         }
         self.same_buffers(true)?;
-        coverage.count(self.fresh, &Deed::Look { line }, manner.route, number, &cases);
+        coverage.count(self.sort, &Deed::Look { line }, manner.route, number, &cases);
+        if seen.lowest.is_some_and(|at| sets::is_touchy_at(&self.model, at)) {
+            coverage.count_set(self.sort, manner.route, By::Look, &[sets::Sight::Leaves], None);
+        }
         Ok(Given::Look(number))
     }
 
@@ -423,7 +484,7 @@ impl Run {
         }
         same(Kind::Look, "look's number", number, self.model.look(line).0, "the model")?;
         self.same_buffers(true)?;
-        coverage.count(self.fresh, &Deed::LookNumber { line }, manner.route, number, &[]);
+        coverage.count(self.sort, &Deed::LookNumber { line }, manner.route, number, &[]);
         Ok(Given::Look(number))
     }
 
@@ -437,7 +498,7 @@ impl Run {
         same(Kind::Entry, "the entry's number", number, expected, "the model")?;
         same(Kind::Entry, "the entry's value", value, address, "the model")?;
         self.same_buffers(true)?;
-        coverage.count(self.fresh, &Deed::Entry { page }, manner.route, number, &[]);
+        coverage.count(self.sort, &Deed::Entry { page }, manner.route, number, &[]);
         Ok(Given::Entry(number, value))
     }
 
@@ -448,9 +509,9 @@ impl Run {
         if !self.model.fits() {
             return Ok(Given::Audit);
         }
-        let places = 0..self.model.shape.lines;
+        let records = self.model.all_records();
         let mut held: Vec<(u64, Record)> =
-            places.filter_map(|place| self.model.held(place).map(|record| (record.line, record))).collect();
+            records.filter_map(|at| self.model.held(at).map(|record| (record.line, record))).collect();
         if let Some(plant) = self.plant {
             plant.before_audit(&mut plain, &mut held);
         }
@@ -471,7 +532,7 @@ impl Run {
             looks += 1;
         }
         self.same_buffers(true)?;
-        coverage.count_audit(looks);
+        coverage.count_audit(self.sort, looks);
         Ok(Given::Audit)
     }
 

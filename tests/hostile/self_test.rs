@@ -4,19 +4,22 @@
 use crate::apart::End;
 use crate::coverage::Coverage;
 use crate::guarded::Real;
+use crate::limits::{set_lines, EDITIONS};
 use crate::list_faults::FAULTS;
 use crate::pairs::{self, Failure};
-use crate::places::{Boards, LINES};
+use crate::places::{lines_of, Boards};
 use crate::plant::{self, Plant, PLANTS};
 use crate::rng::Rng;
 use crate::routes::{Manner, Route};
 use crate::run::{first_difference, quietly, Difference, Kind};
+use crate::sets::{By, USES};
 use crate::shrink::{self, Fails};
 use crate::sights::{Size, SWEEPS};
 use crate::trace::{self, Trace};
 use crate::walks::{Walk, WRONGS};
-use crate::{apart, edges, list_runs, log_faults, log_runs, routes, search, values};
-use model::{Board, Shape};
+use crate::{apart, edges, list_runs, log_faults, log_runs, routes, search, set_faults, set_runs, values, Planned};
+use model::{Board, Edition, Shape};
+use std::collections::HashSet;
 
 /// Calls within which a planted fault must be found.
 const CALLS: u64 = 100_000;
@@ -24,8 +27,12 @@ const CALLS: u64 = 100_000;
 /// Damaged logs within which a fault of logs must be found.
 const LOGS: u64 = 5_000;
 
-/// Steps to which it must shrink.
+/// Steps to which it must shrink; so many more in sets of four as it takes accesses more to fill one.
 const STEPS: usize = 8;
+
+fn steps(edition: Edition) -> usize {
+    STEPS + set_lines(edition) as usize - 1
+}
 
 pub fn all() -> Result<(), String> {
     for (plant, name) in plant::searched().filter(|(plant, _)| *plant != Plant::Hang) {
@@ -35,17 +42,23 @@ pub fn all() -> Result<(), String> {
     }
     hang()?;
     println!("planted fault hang               ended by a signal");
-    planted_pair()?;
-    println!("planted fault in a pair of runs found");
-    planted_in(edges::edges, &[Plant::Slots, Plant::Unfit])?;
+    for (edition, _) in EDITIONS {
+        planted_pair(edition)?;
+        planted_in(edges::edges, edition, &[Plant::Slots, Plant::Unfit])?;
+        let asks: Vec<Plant> =
+            PLANTS.map(|(plant, _)| plant).into_iter().filter(|p| matches!(p, Plant::Asks(_))).collect();
+        planted_in(values::values, edition, &asks)?;
+        let lists = FAULTS.into_iter().filter(|(_, _, kind)| *kind != Kind::Signal);
+        planted_in(list_runs::lists, edition, &lists.map(|(wrong, ..)| Plant::List(wrong)).collect::<Vec<_>>())?;
+    }
+    println!("in each edition: planted fault in a pair of runs found");
     println!("planted faults on a board at a limit and on one past it found");
-    let asks: Vec<Plant> = PLANTS.map(|(plant, _)| plant).into_iter().filter(|p| matches!(p, Plant::Asks(_))).collect();
-    planted_in(values::values, &asks)?;
     println!("planted faults in what is asked of values found beside the numbers");
-    let lists = FAULTS.into_iter().filter(|(_, _, kind)| *kind != Kind::Signal);
-    planted_in(list_runs::lists, &lists.map(|(wrong, ..)| Plant::List(wrong)).collect::<Vec<_>>())?;
     println!("planted faults in lists found in the planned ones");
-    planted_walks()?;
+    for (edition, _) in EDITIONS {
+        planted_walks(edition)?;
+    }
+    planted_sets()?;
     planted_logs()?;
     canaries()?;
     println!("each canary, changed, is named");
@@ -77,12 +90,12 @@ fn planted(plant: Plant) -> Result<(usize, usize), String> {
 
 /// Shrinks the trace that has found a fault, and replays it. Gives how many steps were left.
 fn shrunk(plant: Plant, fails: Fails, trace: Trace, difference: Difference) -> Result<usize, String> {
-    if difference.kind != plant.found_as() {
+    if !plant.is_found_as(difference.kind) {
         return Err(format!("found as another fault: {difference:?}"));
     }
     let (small, difference) = shrink::shrink(fails, trace, difference);
     let left = small.steps.len();
-    if left > STEPS {
+    if left > steps(small.start.board.edition) {
         return Err(format!("shrunk to {left} steps only"));
     }
     let text = trace::to_text(&small);
@@ -115,7 +128,8 @@ fn planted_logs() -> Result<(), String> {
         let (_, left) = quietly(|| planted(plant)).map_err(|problem| format!("planted fault '{name}': {problem}"))?;
         most = most.max(left);
         if kind != Kind::Signal {
-            quietly(|| planted_in(log_runs::planned, &[plant]))?;
+            let runs: Planned = |rng, _, plant, coverage| log_runs::planned(rng, plant, coverage);
+            quietly(|| planted_in(runs, Edition::Ones, &[plant]))?;
         }
     }
     let faults = log_faults::FAULTS.len();
@@ -125,27 +139,57 @@ fn planted_logs() -> Result<(), String> {
     Ok(())
 }
 
-/// Faults in which places a call visits: each must be found wherever it shows, and nothing where nothing is wrong.
-fn planted_walks() -> Result<(), String> {
+/// Faults in sets of four: each must be found by whatever uses lines it shows with, on wild boards and on fresh ones; those of
+/// number 1 on boards that have them; nothing where nothing is wrong.
+fn planted_sets() -> Result<(), String> {
+    let raw = Manner { route: Route::Raw, yes: 1, null: false };
+    let find = |plant: Plant, by: By, fresh: bool| {
+        set_runs::runs(&mut Rng::new(7), by, (fresh, raw), Some(plant), &mut Coverage::new()).err()
+    };
+    let each = || USES.iter().flat_map(|&by| [(by, true), (by, false)]);
+    if let Some((by, _)) = each().find(|&(by, fresh)| find(Plant::Sets(None), by, fresh).is_some()) {
+        return Err(format!("sets of four, {by:?}: a fault is found where nothing is wrong"));
+    }
+    for &(wrong, name, ..) in set_faults::FAULTS {
+        let plant = Plant::Sets(Some(wrong));
+        if plant.found_as() == Kind::Number {
+            planted_in(edges::edges, Edition::Fours, &[plant])?;
+            planted_in(list_runs::lists, Edition::Fours, &[plant])?;
+        }
+        for (by, fresh) in each().filter(|&(by, fresh)| wrong.shows_by(fresh).contains(&by)) {
+            match find(plant, by, fresh) {
+                Some(Failure::Run(_, difference)) if plant.is_found_as(difference.kind) => {}
+                _ => return Err(format!("planted fault '{name}' by {by:?}, on a fresh board: {fresh}: not found")),
+            }
+        }
+    }
+    println!("planted faults in sets of four: {}, each found by whatever uses lines", set_faults::FAULTS.len());
+    Ok(())
+}
+
+/// Faults in which records a call visits: each must be found wherever it shows, and nothing where nothing is wrong.
+fn planted_walks(edition: Edition) -> Result<(), String> {
     let mut rng = Rng::new(7);
-    let boards = LINES.map(|lines| Boards::of(&mut rng, lines));
+    let boards: Vec<Boards> = lines_of(edition).map(|lines| Boards::of(&mut rng, edition, lines)).collect();
+    let size = |boards: &Boards| Size::of(edition, boards.lines);
     // With the most lines runs take long: only what is wrong is tried there, on wild boards.
-    let quick = || boards.iter().filter(|boards| Size::of(boards.lines) != Size::Most);
+    let quick = || boards.iter().filter(|boards| size(boards) != Size::Most);
     for (sweep, call) in SWEEPS {
         let right = Walk { sweep, wrong: None };
         if quick().any(|boards| walked(&mut rng, boards, false, right).is_some()) {
             return Err(format!("{call}: a fault is found where nothing is wrong"));
         }
     }
-    for (wrong, name, at) in WRONGS {
+    for (wrong, name, at) in WRONGS.into_iter().filter(|(wrong, ..)| wrong.is_of(edition)) {
         for &sweep in at.wild {
             let all = boards.iter().map(|boards| (false, boards)).chain(quick().map(|boards| (true, boards)));
-            let shows = |(fresh, boards): &(bool, &Boards)| at.has(sweep, Size::of(boards.lines), *fresh);
+            let shows = |(fresh, boards): &(bool, &Boards)| at.has(sweep, size(boards), *fresh);
             planted_walk(&mut rng, Walk { sweep, wrong: Some(wrong) }, all.filter(shows))
                 .map_err(|problem| format!("planted fault '{name}' in {sweep:?}: {problem}"))?;
         }
         let calls: Vec<&str> = at.wild.iter().map(|&sweep| trace::name_of(&SWEEPS, sweep)).collect();
-        println!("planted fault {name:18} found in {}; shrunk, replayed", calls.join(", "));
+        let sets = set_lines(edition);
+        println!("planted fault {name:18} found in {}, in sets of {sets}; shrunk, replayed", calls.join(", "));
     }
     Ok(())
 }
@@ -191,21 +235,19 @@ fn hang() -> Result<(), String> {
     }
 }
 
-fn planted_pair() -> Result<(), String> {
-    match pairs::pair(&mut Rng::new(7), &mut Coverage::new(), true) {
+fn planted_pair(edition: Edition) -> Result<(), String> {
+    match pairs::pair(&mut Rng::new(7), edition, &mut Coverage::new(), true) {
         Err(Failure::Apart(..)) => Ok(()),
         _ => Err("planted fault in a pair of runs: not found".into()),
     }
 }
 
-type Runs = fn(&mut Rng, Option<Plant>, &mut Coverage) -> Result<usize, Failure>;
-
 /// Each of these faults must be found in planned runs.
-fn planted_in(runs: Runs, plants: &[Plant]) -> Result<(), String> {
+fn planted_in(runs: Planned, edition: Edition, plants: &[Plant]) -> Result<(), String> {
     for &plant in plants {
-        match runs(&mut Rng::new(7), Some(plant), &mut Coverage::new()) {
-            Err(Failure::Run(_, difference)) if difference.kind == plant.found_as() => {}
-            _ => return Err(format!("planted fault {plant:?} in planned runs: not found")),
+        match runs(&mut Rng::new(7), edition, Some(plant), &mut Coverage::new()) {
+            Err(Failure::Run(_, difference)) if plant.is_found_as(difference.kind) => {}
+            _ => return Err(format!("planted fault {plant:?} in planned runs, {edition:?}: not found")),
         }
     }
     Ok(())
@@ -213,50 +255,65 @@ fn planted_in(runs: Runs, plants: &[Plant]) -> Result<(), String> {
 
 /// Each canary that is changed must be named alone: those of the buffers, those of the tag, the C board's.
 fn canaries() -> Result<(), String> {
-    let board = Board::fresh(Shape { frames: 1, uncached: 0, processes: 1, lines: 1 });
+    let board = Board::fresh_of(Edition::Fours, Shape { frames: 1, uncached: 0, processes: 1, lines: 4 });
     type Change = fn(&mut Real, bool);
-    let breaks: [(&str, Change); 7] = [
+    let breaks: [(&str, Change); 8] = [
         ("slots", |real, before| real.slots.break_canary(before)),
         ("words", |real, before| real.words.break_canary(before)),
         ("records", |real, before| real.records.break_canary(before)),
         ("cache", |real, before| real.cache.break_canary(before)),
         ("memory", |real, before| real.memory.break_canary(before)),
+        ("uses", |real, before| real.uses.break_canary(before)),
         ("the tag's set", |real, before| real.set.break_canary(before)),
         ("the tag's name", |real, before| real.name.break_canary(before)),
     ];
     for ((name, change), before) in breaks.iter().flat_map(|entry| [(entry, false), (entry, true)]) {
-        let mut real = Real::of(&board, &[0, 1, 2, 3, 15]);
+        let mut real = Real::of(&board, &[0, 1, 2, 3, 15, 7]);
         change(&mut real, before);
         if real.broken() != [*name] {
             return Err(format!("a changed canary of {name} is not named alone"));
         }
     }
-    let mut real = Real::of(&board, &[0; 5]);
+    let mut real = Real::of(&board, &[0; 6]);
     if !real.broken().is_empty() || !routes::cage_shows(&mut real) {
         return Err("canaries show what is not, or the C board's don't show what is".into());
     }
     Ok(())
 }
 
-/// Each thing to be reached, left out alone, must be named alone.
+/// Things to be reached that are left out must be named, and no others: those whose number has this bit, and those whose hasn't,
+/// for each bit. So of any two each is left out without the other.
 fn unreached() -> Result<usize, String> {
-    let (mut full, mut names) = (Coverage::new(), Vec::new());
-    full.each_required(|name, count| {
-        *count = 1;
-        names.push(name.to_string());
-    });
-    if !full.problems().is_empty() {
-        return Err("a full coverage has problems".into());
+    let (mut coverage, mut names) = (Coverage::new(), Vec::new());
+    coverage.each_required(|name, _| names.push(format!("not reached: {name}")));
+    if names.iter().collect::<HashSet<_>>().len() != names.len() {
+        return Err("two things to reach have one name".into());
     }
-    for (left_out, name) in names.iter().enumerate() {
-        let (mut coverage, mut index) = (full.clone(), 0);
-        coverage.each_required(|_, count| {
-            *count = u64::from(index != left_out);
-            index += 1;
-        });
-        if coverage.problems() != [format!("not reached: {name}")] {
-            return Err(format!("not missed when it is not reached: {name}"));
+    for bit in 0..=names.len().ilog2() {
+        for is in [0, 1] {
+            let left_out = |index: usize| index >> bit & 1 == is;
+            let mut index = 0;
+            coverage.each_required(|_, count| {
+                *count = u64::from(!left_out(index));
+                index += 1;
+            });
+            let (problems, mut left) = (coverage.problems(), names.iter().enumerate());
+            if let Some(problem) = problems
+                .iter()
+                .find(|problem| left.find(|(index, _)| left_out(*index)).map(|(_, name)| name) != Some(problem))
+            {
+                return Err(format!(
+                    "named though it is reached, or after one that is not and is not named: {problem}"
+                ));
+            }
+            if let Some((_, name)) = left.find(|(index, _)| left_out(*index)) {
+                return Err(format!("not missed when it is not reached: {name}"));
+            }
         }
+    }
+    coverage.each_required(|_, count| *count = 1);
+    if !coverage.problems().is_empty() {
+        return Err("a full coverage has problems".into());
     }
     Ok(names.len())
 }

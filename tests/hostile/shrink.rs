@@ -221,13 +221,14 @@ impl Shrinker {
     }
 
     fn zero_board(&mut self) {
-        self.takes(|trace| trace.start.offsets = [0; 5]);
+        self.takes(|trace| trace.start.offsets = [0; 6]);
         self.takes(|trace| trace.start.board.tag = NO_TAG);
         self.zero_buffer(|board| &mut board.memory);
         self.zero_buffer(|board| &mut board.cache);
         self.zero_buffer(|board| &mut board.slots);
         self.zero_buffer(|board| &mut board.records);
         self.zero_buffer(|board| &mut board.words);
+        self.zero_buffer(|board| &mut board.uses);
     }
 
     /// Zeroes the whole buffer, or else its halves, and so on.

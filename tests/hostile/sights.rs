@@ -1,10 +1,11 @@
 //! What map, unmap, protect and flush all meet at the places of a page. CR 3 has a call visit the places of a page's 256 names
 //! and no others, so what stands at these decides whether it visits the right ones: lines at both ends of them; beside and
-//! among them lines that are not the page's, and records that only look like its lines; lines that share a physical line. All
-//! is counted in every run, by how many lines the board has and by route; the planned runs of `places.rs` reach it.
+//! among them lines that are not the page's, and records that only look like its lines; lines that share a physical line. At a
+//! place stands one record, or in sets of four there stand four, one after another: what follows speaks of records. All is
+//! counted in every run, by how many sets the board has and by route; the planned runs of `places.rs` reach it.
 
 use crate::limits::*;
-use model::{mapping, page_in_range, page_of_name, place_of, Board, Call, Record};
+use model::{mapping, page_in_range, page_of_name, place_of, Board, Call, Edition, Record};
 use std::cmp::Ordering;
 use std::collections::BTreeMap;
 use std::ops::Range;
@@ -27,7 +28,7 @@ pub const SWEEPS: [(Sweep, &str); 5] =
 /// The sweeps of a page's lines; a frame's prefix 1 range has 256 names as a page has.
 pub const PAGES: &[Sweep] = &[MapPage, MapFrame, Unmap, Protect];
 
-/// How many lines a board has.
+/// How many sets a board has; with one line to a place, how many lines.
 #[derive(Clone, Copy, Debug, PartialEq, Eq)]
 pub enum Size {
     One,
@@ -37,20 +38,16 @@ pub enum Size {
     Most,
 }
 
-pub const SIZES: [(Size, &str); 5] = [
-    (One, "1 line"),
-    (Few, "2 to 128 lines"),
-    (Page, "256 lines"),
-    (Many, "512 to 32,768 lines"),
-    (Most, "65,536 lines"),
-];
+pub const SIZES: [(Size, &str); 5] =
+    [(One, "1 set"), (Few, "2 to 128 sets"), (Page, "256 sets"), (Many, "512 sets or more"), (Most, "65,536 lines")];
 
 impl Size {
     /// Of a number that L may be.
-    pub fn of(lines: u64) -> Size {
-        match (lines, lines.cmp(&LINES_PER_PAGE)) {
+    pub fn of(edition: Edition, lines: u64) -> Size {
+        let sets = sets_of(edition, lines);
+        match (sets, sets.cmp(&LINES_PER_PAGE)) {
+            _ if lines == LINES_MAX => Most,
             (1, _) => One,
-            (LINES_MAX, _) => Most,
             (_, Ordering::Less) => Few,
             (_, Ordering::Equal) => Page,
             (_, Ordering::Greater) => Many,
@@ -58,17 +55,19 @@ impl Size {
     }
 }
 
-/// Any number of lines; several; fewer than a page has; more, so that there are other places than the page's.
+/// Any number of sets; several; fewer than a page has lines, with and without a single one; more, so that there are other places
+/// than the page's.
 pub const ANY: &[Size] = &[One, Few, Page, Many, Most];
 pub const SEVERAL: &[Size] = &[Few, Page, Many, Most];
 pub const FEWER: &[Size] = &[Few];
+pub const FEWEST: &[Size] = &[One, Few];
 pub const MORE: &[Size] = &[Many, Most];
 
 /// On a fresh board no line is held of a page that is about to be mapped.
 pub const HELD: &[Sweep] = &[MapFrame, Unmap, Protect];
 pub const NONE: &[Sweep] = &[];
 
-/// By which sweeps something is met on wild boards, by which on fresh ones, and with how many lines.
+/// By which sweeps something is met on wild boards, by which on fresh ones, and with how many sets.
 pub struct Where {
     pub wild: &'static [Sweep],
     pub fresh: &'static [Sweep],
@@ -94,11 +93,12 @@ macro_rules! sights {
 }
 
 sights! {
-    First "a line of it at the first of its places": PAGES, HELD, ANY;
-    Last "a line of it at the last of its places": PAGES, HELD, ANY;
-    Full "a line of it at each of its places": PAGES, NONE, ANY;
-    Bottom "a line of it at the first place of all": PAGES, HELD, MORE;
-    Top "a line of it at the last place of all": PAGES, HELD, MORE;
+    First "a line of it in the first record at its places": PAGES, HELD, ANY;
+    Last "a line of it in the last record at its places": PAGES, HELD, ANY;
+    Full "a line of it in each record at its places": PAGES, NONE, ANY;
+    Whole "a line of it in each record at one of its places": PAGES, HELD, FEWEST;
+    Bottom "a line of it in the first record of all": PAGES, HELD, MORE;
+    Top "a line of it in the last record of all": PAGES, HELD, MORE;
     Before "another page's line just before its places": PAGES, PAGES, MORE;
     After "another page's line just after its places": PAGES, PAGES, MORE;
     Alike "at its places a line of a page with the same low 20 bits": PAGES, PAGES, ANY;
@@ -110,7 +110,7 @@ sights! {
     Beyond "a valid record of it with a line beyond memory": PAGES, NONE, ANY;
     Invalid "a record of it that is not valid": PAGES, NONE, ANY;
     Twice "two changed lines of one physical line, half of the places apart": &[Unmap, FlushAll], NONE, SEVERAL;
-    Crossed "two changed lines of one physical line, the higher name at the lower place": &[Unmap], NONE, FEWER;
+    Crossed "two changed lines of one physical line, the higher name in the lower record": &[Unmap], NONE, FEWER;
     Elsewhere "a changed line of it whose physical line is not where it is mapped": &[Unmap], NONE, ANY;
     Prefix1 "a line of its frame's prefix 1 range": &[Unmap, Protect], NONE, ANY;
     Same "prefix 1 lines at both ends of their places, which are the page's": &[MapFrame], &[MapFrame], ANY;
@@ -119,14 +119,21 @@ sights! {
     BothSame "prefix 1 lines and the page's at the same places": &[MapFrame], NONE, SEVERAL;
     BothBelow "prefix 1 lines below the page's": &[MapFrame], NONE, MORE;
     BothAbove "prefix 1 lines above the page's": &[MapFrame], NONE, MORE;
-    Ends "changed lines at the first place of all and at the last": &[FlushAll], &[FlushAll], ANY;
-    Quarters "a changed line in each quarter of the places": &[FlushAll], &[FlushAll], SEVERAL;
+    Ends "changed lines in the first record of all and in the last": &[FlushAll], &[FlushAll], ANY;
+    Quarters "a changed line in each quarter of the records": &[FlushAll], &[FlushAll], SEVERAL;
 }
 
-/// The places of a page's 256 names, each the name mod L: in a row, and all places where L is no more than 256.
-pub fn places_of(page: u64, lines: u64) -> Range<u64> {
-    let first = place_of(page * LINES_PER_PAGE, lines);
-    first..first + lines.min(LINES_PER_PAGE)
+/// The records at the places of a page's 256 names, each the name mod the number of sets: in a row, and all records where there
+/// are no more than 256 sets.
+pub fn records_of(page: u64, edition: Edition, lines: u64) -> Range<u64> {
+    let sets = sets_of(edition, lines);
+    let first = place_of(page * LINES_PER_PAGE, sets);
+    set_lines(edition) * first..set_lines(edition) * (first + sets.min(LINES_PER_PAGE))
+}
+
+/// Whether a record that stands there is at the place of this name.
+pub fn stands(board: &Board, name: u64, at: u64) -> bool {
+    place_of(name, sets_of(board.edition, board.shape.lines)) == at / set_lines(board.edition)
 }
 
 /// Whether a physical line is inside memory.
@@ -164,21 +171,21 @@ fn those<const N: usize>(all: [(bool, Sight); N]) -> Vec<Sight> {
 
 /// A held line.
 struct Held {
-    place: u64,
+    at: u64,
     record: Record,
 }
 
 impl Held {
-    fn all(board: &Board, places: Range<u64>) -> impl Iterator<Item = Held> + '_ {
-        places.filter_map(|place| board.held(place).map(|record| Held { place, record }))
+    fn all(board: &Board, records: Range<u64>) -> impl Iterator<Item = Held> + '_ {
+        records.filter_map(|at| board.held(at).map(|record| Held { at, record }))
     }
 
     fn bytes<'a>(&self, board: &'a Board) -> &'a [u8] {
-        &board.cache[line_bytes(self.place)]
+        &board.cache[line_bytes(self.at)]
     }
 }
 
-/// Of each physical line, the lowest of these and the highest, where their bytes differ. They come by rising place.
+/// Of each physical line, the lowest of these and the highest, where their bytes differ. They come by rising record.
 fn doubles<'a>(board: &Board, lines: impl Iterator<Item = &'a Held>) -> Vec<[&'a Held; 2]> {
     let mut of_line: BTreeMap<u64, [&Held; 2]> = BTreeMap::new();
     for held in lines {
@@ -187,17 +194,17 @@ fn doubles<'a>(board: &Board, lines: impl Iterator<Item = &'a Held>) -> Vec<[&'a
     of_line.into_values().filter(|[low, high]| low.bytes(board) != high.bytes(board)).collect()
 }
 
-fn apart(doubles: &[[&Held; 2]], places: u64) -> bool {
-    doubles.iter().any(|[low, high]| high.place - low.place >= places)
+fn apart(doubles: &[[&Held; 2]], records: u64) -> bool {
+    doubles.iter().any(|[low, high]| high.at - low.at >= records)
 }
 
-/// The places of a page that a call takes the lines of.
+/// The records at the places of a page that a call takes the lines of.
 struct Ground<'a> {
     board: &'a Board,
     page: u64,
     /// The call takes the lines of this page, too.
     also: u64,
-    places: Range<u64>,
+    records: Range<u64>,
     /// The lines held there: the page's, and those that the call doesn't take.
     own: Vec<Held>,
     kept: Vec<Held>,
@@ -205,26 +212,33 @@ struct Ground<'a> {
 
 impl Ground<'_> {
     fn of(board: &Board, page: u64, also: u64) -> Ground<'_> {
-        let places = places_of(page, board.shape.lines);
-        let lines = Held::all(board, places.clone()).filter(|held| {
+        let records = records_of(page, board.edition, board.shape.lines);
+        let lines = Held::all(board, records.clone()).filter(|held| {
             let of = page_of_name(held.record.name);
             of == page || of != also
         });
         let (own, kept) = lines.partition(|held| page_of_name(held.record.name) == page);
-        Ground { board, page, also, places, own, kept }
+        Ground { board, page, also, records, own, kept }
     }
 
-    fn own_at(&self, place: u64) -> bool {
-        self.own.iter().any(|held| held.place == place)
+    fn own_at(&self, at: u64) -> bool {
+        self.own.iter().any(|held| held.at == at)
     }
 
     fn at_both_ends(&self) -> bool {
-        self.own_at(self.places.start) && self.own_at(self.places.end - 1)
+        self.own_at(self.records.start) && self.own_at(self.records.end - 1)
     }
 
-    /// Whether a line that the call doesn't take is held at this place beside the page's.
-    fn kept_beside(&self, place: u64) -> bool {
-        let held = (place < self.board.shape.lines).then(|| self.board.held(place)).flatten();
+    fn is_whole_somewhere(&self) -> bool {
+        let of_set = set_lines(self.board.edition);
+        let is_set =
+            |lines: &[Held]| lines[0].at % of_set == 0 && lines[lines.len() - 1].at == lines[0].at + of_set - 1;
+        self.own.windows(of_set as usize).any(is_set)
+    }
+
+    /// Whether a line that the call doesn't take is held there, beside the page's places.
+    fn kept_beside(&self, at: u64) -> bool {
+        let held = (at < self.board.shape.lines).then(|| self.board.held(at)).flatten();
         held.is_some_and(|record| page_of_name(record.name) != self.also)
     }
 
@@ -238,21 +252,21 @@ impl Ground<'_> {
 
     /// The records on all the board that have a name of the page: whether each stands at the page's places, is valid, stands at
     /// its own place and has a line in memory.
-    fn records(&self) -> Vec<[bool; 4]> {
+    fn named(&self) -> Vec<[bool; 4]> {
         let names = (0..).zip(self.board.records.iter().step_by(2));
         let named = names.filter(|(_, &name)| page_of_name(name) == self.page);
-        let asked = named.map(|(place, &name)| {
-            let Record { valid, line, .. } = self.board.record(place);
-            let placed = place_of(name, self.board.shape.lines) == place;
-            [self.places.contains(&place), valid, placed, inside(self.board, line)]
+        let asked = named.map(|(at, &name)| {
+            let Record { valid, line, .. } = self.board.record(at);
+            [self.records.contains(&at), valid, stands(self.board, name, at), inside(self.board, line)]
         });
         asked.collect()
     }
 
     /// What the sweep of any page may meet.
     fn sights(&self) -> Vec<Sight> {
-        let (lines, Range { start, end }) = (self.board.shape.lines, self.places.clone());
-        let records = self.records();
+        let (lines, Range { start, end }) = (self.board.shape.lines, self.records.clone());
+        let sets = sets_of(self.board.edition, lines);
+        let named = self.named();
         let alike = |of: u64| of < PAGES_END && of % ALIKE == self.page % ALIKE;
         let shared = |own: &Held| {
             let twin =
@@ -263,24 +277,25 @@ impl Ground<'_> {
             (self.own_at(start), Sight::First),
             (self.own_at(end - 1), Sight::Last),
             (self.own.len() as u64 == end - start, Sight::Full),
+            (self.is_whole_somewhere(), Sight::Whole),
             (start == 0 && self.own_at(start), Sight::Bottom),
             (end == lines && self.own_at(end - 1), Sight::Top),
             (start > 0 && self.kept_beside(start - 1), Sight::Before),
             (self.kept_beside(end), Sight::After),
             (self.kept_name(|name| alike(page_of_name(name))), Sight::Alike),
             (self.kept_name(|name| name >= NAMES_END && page_of_name(name % NAMES_END) == self.page), Sight::Far),
-            (self.kept_name(|name| name.checked_add(lines).is_none()), Sight::Highest),
+            (self.kept_name(|name| name.checked_add(sets).is_none()), Sight::Highest),
             (self.changed().any(shared), Sight::Shared),
-            (records.contains(&[true, true, false, true]), Sight::Stray),
-            (records.contains(&[false, true, false, true]), Sight::Astray),
-            (records.contains(&[true, true, true, false]), Sight::Beyond),
-            (records.contains(&[true, false, true, true]), Sight::Invalid),
+            (named.contains(&[true, true, false, true]), Sight::Stray),
+            (named.contains(&[false, true, false, true]), Sight::Astray),
+            (named.contains(&[true, true, true, false]), Sight::Beyond),
+            (named.contains(&[true, false, true, true]), Sight::Invalid),
         ])
     }
 
     /// What the sweep of a frame's prefix 1 range may meet, beside the page's places.
     fn sights_beside(&self, page: &Ground) -> Vec<Sight> {
-        let (ends, both) = match self.places.start.cmp(&page.places.start) {
+        let (ends, both) = match self.records.start.cmp(&page.records.start) {
             Ordering::Equal => (Sight::Same, Sight::BothSame),
             Ordering::Less => (Sight::Below, Sight::BothBelow),
             Ordering::Greater => (Sight::Above, Sight::BothAbove),
@@ -301,9 +316,9 @@ impl Ground<'_> {
     /// What may be met where lines are written back.
     fn sights_of_changed(&self) -> Vec<Sight> {
         let doubles = doubles(self.board, self.changed());
-        let places = self.places.end - self.places.start;
+        let records = self.records.end - self.records.start;
         those([
-            (apart(&doubles, places / 2), Sight::Twice),
+            (apart(&doubles, records / 2), Sight::Twice),
             (doubles.iter().any(|[low, high]| low.record.name > high.record.name), Sight::Crossed),
         ])
     }
@@ -313,8 +328,8 @@ impl Ground<'_> {
 fn sights_of_all(board: &Board) -> Vec<Sight> {
     let lines = board.shape.lines;
     let changed: Vec<Held> = Held::all(board, 0..lines).filter(|held| held.record.changed).collect();
-    let at = |place: u64| changed.binary_search_by_key(&place, |held| held.place).is_ok();
-    let quarter = |quarter: u64| changed.iter().any(|held| held.place * 4 / lines == quarter);
+    let at = |at: u64| changed.binary_search_by_key(&at, |held| held.at).is_ok();
+    let quarter = |quarter: u64| changed.iter().any(|held| held.at * 4 / lines == quarter);
     those([
         (at(0) && at(lines - 1), Sight::Ends),
         ((0..4).all(quarter), Sight::Quarters),

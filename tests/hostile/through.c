@@ -13,19 +13,22 @@ static through_answer unpacked(oaledva_answer answer) {
     return parts;
 }
 
-/* What the test's mirror of oaledva_board, and its lengths, must agree with. */
+/* What the test's mirror of the boards, and its lengths, must agree with. */
 size_t through_board_bytes(void) { return sizeof(oaledva_board); }
+size_t through_sets_board_bytes(void) { return sizeof(oaledva_sets_board); }
 
-void through_lengths(size_t frames, size_t processes, size_t lines, size_t lengths[5]) {
+void through_lengths(size_t frames, size_t processes, size_t lines, size_t lengths[6]) {
     lengths[0] = OALEDVA_SLOTS(processes);
     lengths[1] = OALEDVA_WORDS(frames);
     lengths[2] = OALEDVA_RECORDS(lines);
     lengths[3] = OALEDVA_CACHE(lines);
     lengths[4] = OALEDVA_MEMORY(frames);
+    lengths[5] = OALEDVA_USES(lines);
 }
 
-/* The refusal numbers by their names, 1 to 13, then the marks, 0 to 4, then the limits, and how many words an access has. */
-enum { CONSTANTS = 23 };
+/* The refusal numbers by their names, 1 to 13, then the marks, 0 to 4, then the limits, how many words an access has, and how many
+ * lines a set of four. */
+enum { CONSTANTS = 24 };
 
 void through_constants(size_t constants[CONSTANTS]) {
     static const size_t all[CONSTANTS] = {
@@ -33,7 +36,7 @@ void through_constants(size_t constants[CONSTANTS]) {
         OALEDVA_SLOT_READ_ONLY, OALEDVA_NOT_MAPPED, OALEDVA_PAGE_READ_ONLY, OALEDVA_FRAME_IN_USE,
         OALEDVA_MAPPED_ALREADY, OALEDVA_OUTSIDE, OALEDVA_OTHER_LINE, OALEDVA_NO_ACCESS, OALEDVA_HIT, OALEDVA_REFILLED,
         OALEDVA_WROTE_BACK, OALEDVA_UNCACHED, OALEDVA_FRAMES_MAX, OALEDVA_PROCESSES_MAX, OALEDVA_LINES_MAX,
-        OALEDVA_LINE_BYTES, OALEDVA_ACCESS_WORDS,
+        OALEDVA_LINE_BYTES, OALEDVA_ACCESS_WORDS, OALEDVA_SET_LINES,
     };
     for (int i = 0; i < CONSTANTS; i++) constants[i] = all[i];
 }
@@ -50,25 +53,38 @@ through_entry through_entry_of_page(uint64_t page) {
     return parts;
 }
 
-/* Each call by either kind of the header's functions: those over a board, or those over each number and buffer. Of the
- * former a load and a store are two. */
-through_answer through_user_access(oaledva_board *b, bool by_board, size_t process, uint32_t store, uint32_t width,
-                                   uint32_t address, uint32_t value) {
+/* Which of the header's functions: in which edition; and those over a board, or those over each number and buffer. A board of 01's
+ * edition is the common part of the other's. */
+typedef struct through_way {
+    bool sets, by_board;
+} through_way;
+
+#define OF_BUFFERS(name, ...)                                                                                      \
+    (way.sets ? oaledva_sets_##name(OALEDVA_SETS_LEND(*b), __VA_ARGS__)                                            \
+              : oaledva_##name(OALEDVA_LEND(b->common), __VA_ARGS__))
+#define OF_BOARD(name, ...)                                                                                        \
+    (way.sets ? oaledva_sets_board_##name(b, __VA_ARGS__) : oaledva_board_##name(&b->common, __VA_ARGS__))
+#define EITHER(name, ...) (way.by_board ? OF_BOARD(name, __VA_ARGS__) : OF_BUFFERS(name, __VA_ARGS__))
+
+/* Of those over a board a load and a store are two. */
+through_answer through_user_access(oaledva_sets_board *b, through_way way, size_t process, uint32_t store,
+                                   uint32_t width, uint32_t address, uint32_t value) {
     oaledva_kind kind = {store};
-    return unpacked(!by_board ? oaledva_user_access(OALEDVA_LEND(*b), b->tag, process, kind, width, address, value)
-                    : store   ? oaledva_board_store(b, process, width, address, value)
-                              : oaledva_board_load(b, process, width, address));
+    return unpacked(!way.by_board ? OF_BUFFERS(user_access, b->common.tag, process, kind, width, address, value)
+                    : store       ? OF_BOARD(store, process, width, address, value)
+                                  : OF_BOARD(load, process, width, address));
 }
 
 /* A list, by either kind; and an access of one, by the header's own functions. */
-through_answer through_user_accesses(oaledva_board *b, const uint32_t *accesses, size_t accesses_length,
-                                     oaledva_answer *answers, size_t answers_length) {
-    return unpacked(oaledva_user_accesses(OALEDVA_LEND(*b), b->tag, accesses, accesses_length, answers, answers_length));
+through_answer through_user_accesses(oaledva_sets_board *b, through_way way, const uint32_t *accesses,
+                                     size_t accesses_length, oaledva_answer *answers, size_t answers_length) {
+    return unpacked(
+        OF_BUFFERS(user_accesses, b->common.tag, accesses, accesses_length, answers, answers_length));
 }
 
-through_answer through_board_accesses(oaledva_board *b, const oaledva_access *accesses, size_t accesses_length,
-                                      oaledva_answer *answers, size_t answers_length) {
-    return unpacked(oaledva_board_accesses(b, accesses, accesses_length, answers, answers_length));
+through_answer through_board_accesses(oaledva_sets_board *b, through_way way, const oaledva_access *accesses,
+                                      size_t accesses_length, oaledva_answer *answers, size_t answers_length) {
+    return unpacked(OF_BOARD(accesses, accesses, accesses_length, answers, answers_length));
 }
 
 void through_make_access(oaledva_access *access, size_t process, bool store, uint32_t width, uint32_t address,
@@ -81,66 +97,67 @@ size_t through_access_words(void) { return sizeof(oaledva_access) / sizeof(uint3
 /* An answer of a list, taken apart. */
 through_answer through_unpacked(oaledva_answer answer) { return unpacked(answer); }
 
-through_answer through_supervisor_access(oaledva_board *b, bool by_board, uint32_t store, uint32_t width,
+through_answer through_supervisor_access(oaledva_sets_board *b, through_way way, uint32_t store, uint32_t width,
                                          uint64_t address, uint32_t value) {
     oaledva_kind kind = {store};
-    return unpacked(!by_board ? oaledva_supervisor_access(OALEDVA_LEND(*b), b->tag, kind, width, address, value)
-                    : store   ? oaledva_board_supervisor_store(b, width, address, value)
-                              : oaledva_board_supervisor_load(b, width, address));
+    return unpacked(!way.by_board ? OF_BUFFERS(supervisor_access, b->common.tag, kind, width, address, value)
+                    : store       ? OF_BOARD(supervisor_store, width, address, value)
+                                  : OF_BOARD(supervisor_load, width, address));
 }
 
-through_answer through_attach(oaledva_board *b, bool by_board, size_t process, size_t slot, uint64_t segment,
+through_answer through_attach(oaledva_sets_board *b, through_way way, size_t process, size_t slot, uint64_t segment,
                               uint32_t write) {
     oaledva_permission permission = {write};
-    return unpacked(by_board ? oaledva_board_attach(b, process, slot, segment, permission)
-                             : oaledva_attach(OALEDVA_LEND(*b), process, slot, segment, permission));
+    return unpacked(EITHER(attach, process, slot, segment, permission));
 }
 
-through_answer through_detach(oaledva_board *b, bool by_board, size_t process, size_t slot) {
-    return unpacked(by_board ? oaledva_board_detach(b, process, slot) : oaledva_detach(OALEDVA_LEND(*b), process, slot));
+through_answer through_detach(oaledva_sets_board *b, through_way way, size_t process, size_t slot) {
+    return unpacked(EITHER(detach, process, slot));
 }
 
-through_answer through_map(oaledva_board *b, bool by_board, uint64_t page, size_t frame, uint32_t write) {
+through_answer through_map(oaledva_sets_board *b, through_way way, uint64_t page, size_t frame, uint32_t write) {
     oaledva_permission permission = {write};
-    return unpacked(by_board ? oaledva_board_map(b, page, frame, permission)
-                             : oaledva_map(OALEDVA_LEND(*b), page, frame, permission));
+    return unpacked(EITHER(map, page, frame, permission));
 }
 
-through_answer through_unmap(oaledva_board *b, bool by_board, uint64_t page) {
-    return unpacked(by_board ? oaledva_board_unmap(b, page) : oaledva_unmap(OALEDVA_LEND(*b), page));
+through_answer through_unmap(oaledva_sets_board *b, through_way way, uint64_t page) {
+    return unpacked(EITHER(unmap, page));
 }
 
-through_answer through_protect(oaledva_board *b, bool by_board, uint64_t page, uint32_t write) {
+through_answer through_protect(oaledva_sets_board *b, through_way way, uint64_t page, uint32_t write) {
     oaledva_permission permission = {write};
-    return unpacked(by_board ? oaledva_board_protect(b, page, permission)
-                             : oaledva_protect(OALEDVA_LEND(*b), page, permission));
+    return unpacked(EITHER(protect, page, permission));
 }
 
-through_answer through_flush_all(oaledva_board *b, bool by_board) {
-    return unpacked(by_board ? oaledva_board_flush_all(b) : oaledva_flush_all(OALEDVA_LEND(*b)));
+through_answer through_flush_all(oaledva_sets_board *b, through_way way) {
+    if (way.sets) {
+        return unpacked(way.by_board ? oaledva_sets_board_flush_all(b) : oaledva_sets_flush_all(OALEDVA_SETS_LEND(*b)));
+    }
+    return unpacked(way.by_board ? oaledva_board_flush_all(&b->common) : oaledva_flush_all(OALEDVA_LEND(b->common)));
 }
 
-through_answer through_tag(oaledva_board *b, bool by_board, uint64_t line) {
-    return unpacked(by_board ? oaledva_board_tag(b, line) : oaledva_tag(OALEDVA_LEND(*b), OALEDVA_TAG_OF(*b), line));
+through_answer through_tag(oaledva_sets_board *b, through_way way, uint64_t line) {
+    return unpacked(way.by_board ? OF_BOARD(tag, line) : OF_BUFFERS(tag, OALEDVA_SETS_TAG_OF(*b), line));
 }
 
-through_answer through_load_and_map(oaledva_board *b, bool by_board, size_t line) {
-    return unpacked(by_board ? oaledva_board_load_and_map(b, line)
-                             : oaledva_load_and_map(OALEDVA_LEND(*b), OALEDVA_TAG_OF(*b), line));
+through_answer through_load_and_map(oaledva_sets_board *b, through_way way, size_t line) {
+    return unpacked(
+        way.by_board ? OF_BOARD(load_and_map, line) : OF_BUFFERS(load_and_map, OALEDVA_SETS_TAG_OF(*b), line));
 }
 
-through_answer through_drop_tag(oaledva_board *b, bool by_board) {
-    return unpacked(by_board ? oaledva_board_drop_tag(b) : oaledva_drop_tag(OALEDVA_LEND(*b), OALEDVA_TAG_OF(*b)));
+through_answer through_drop_tag(oaledva_sets_board *b, through_way way) {
+    if (!way.by_board) return unpacked(OF_BUFFERS(drop_tag, OALEDVA_SETS_TAG_OF(*b)));
+    return unpacked(way.sets ? oaledva_sets_board_drop_tag(b) : oaledva_board_drop_tag(&b->common));
 }
 
 /* Where the bytes stand; NULL where look is refused. */
-const uint8_t *through_look(oaledva_board *b, bool by_board, size_t line) {
-    if (by_board) return oaledva_board_look(b, line);
-    return oaledva_bytes_at(b->cache, b->memory, oaledva_look(OALEDVA_LEND(*b), line));
+const uint8_t *through_look(oaledva_sets_board *b, through_way way, size_t line) {
+    if (way.by_board) return OF_BOARD(look, line);
+    return oaledva_bytes_at(b->common.cache, b->common.memory, OF_BUFFERS(look, line));
 }
 
-uint32_t through_look_number(oaledva_board *b, bool by_board, size_t line) {
-    return (by_board ? oaledva_board_look_number(b, line) : oaledva_look_number(OALEDVA_LEND(*b), line)).number;
+uint32_t through_look_number(oaledva_sets_board *b, through_way way, size_t line) {
+    return EITHER(look_number, line).number;
 }
 
 /* ---- logs: kinds and reasons by their names, and the sizes */
@@ -245,6 +262,6 @@ static oaledva_log_entry made(const oaledva_log_entry *entry, uint32_t yes) {
 void through_log_make(oaledva_log_entry *entry, uint32_t yes) { *entry = made(entry, yes); }
 
 /* A call of a log, made on a board. */
-through_answer through_board_perform(oaledva_board *b, const oaledva_log_entry *entry) {
-    return unpacked(oaledva_board_perform(b, *entry));
+through_answer through_board_perform(oaledva_sets_board *b, through_way way, const oaledva_log_entry *entry) {
+    return unpacked(OF_BOARD(perform, *entry));
 }

@@ -1,10 +1,13 @@
 //! A run as data: the board it starts on, then what is done. It is written as lines of text and read back from them.
 
+use crate::coverage::Sort;
+use crate::guarded::Offsets;
+use crate::limits::{matrix_bytes, EDITIONS, MATRIX_BYTES};
 use crate::lists::{Item, List};
 use crate::logs::{Piece, Reading, Writing};
 use crate::plant::{self, Plant};
 use crate::routes::{Manner, ROUTES};
-use model::{Board, Call, Shape};
+use model::{Board, Call, Matrix, Shape, FRESH_MATRIX};
 use std::fmt::Write;
 
 #[derive(Clone)]
@@ -12,8 +15,13 @@ pub struct Start {
     /// A fresh board: the plain machine runs beside it.
     pub fresh: bool,
     pub board: Board,
-    /// By how many elements each buffer's start is moved, or at which fence it stands: slots, words, records, cache, memory.
-    pub offsets: [usize; 5],
+    pub offsets: Offsets,
+}
+
+impl Start {
+    pub fn sort(&self) -> Sort {
+        Sort { edition: self.board.edition, fresh: self.fresh }
+    }
 }
 
 #[derive(Clone, Debug, PartialEq, Eq)]
@@ -279,6 +287,7 @@ pub fn to_text(trace: &Trace) -> String {
         writeln!(text, "plant {}", name_of(&plant::all(), plant)).expect("text grows");
     }
     let head = [
+        format!("edition {}", name_of(&EDITIONS, board.edition)),
         format!("fresh {}", u32::from(*fresh)),
         format!("shape frames={frames:#x} uncached={uncached:#x} processes={processes:#x} lines={lines:#x}"),
         format!("offsets {}", offsets.map(|offset| offset.to_string()).join(" ")),
@@ -288,6 +297,7 @@ pub fn to_text(trace: &Trace) -> String {
         buffer_text("records", board.records.iter().copied()),
         buffer_text("cache", board.cache.iter().map(|&byte| byte.into())),
         buffer_text("memory", board.memory.iter().map(|&byte| byte.into())),
+        buffer_text("uses", matrix_bytes(&board.uses).iter().map(|&byte| byte.into())),
     ];
     for line in head.into_iter().chain(trace.steps.iter().map(step_text)) {
         text.push_str(&line);
@@ -352,7 +362,7 @@ pub fn number(text: &str) -> Result<u64, String> {
 
 pub fn from_text(text: &str) -> Result<Trace, String> {
     let nothing = Shape { frames: 0, uncached: 0, processes: 0, lines: 0 };
-    let start = Start { fresh: false, board: Board::fresh(nothing), offsets: [0; 5] };
+    let start = Start { fresh: false, board: Board::fresh(nothing), offsets: [0; 6] };
     let mut trace = Trace { start, steps: Vec::new(), plant: None };
     for (index, line) in text.lines().enumerate() {
         let words: Vec<&str> = line.split_whitespace().collect();
@@ -369,6 +379,7 @@ fn read_line(trace: &mut Trace, words: &[&str]) -> Result<(), String> {
     let Start { fresh, board, offsets } = &mut trace.start;
     match words[0] {
         "plant" => trace.plant = Some(value_of(&plant::all(), second)?),
+        "edition" => board.edition = value_of(&EDITIONS, second)?,
         "fresh" => *fresh = number(second)? != 0,
         "shape" => {
             let get = |key| arguments.number(key);
@@ -377,7 +388,7 @@ fn read_line(trace: &mut Trace, words: &[&str]) -> Result<(), String> {
         }
         "offsets" => {
             let read: Result<Vec<u64>, String> = words[1..].iter().map(|word| number(word)).collect();
-            let read: [u64; 5] = read?.try_into().map_err(|_| "there must be five offsets")?;
+            let read: [u64; 6] = read?.try_into().map_err(|_| "there must be six offsets")?;
             *offsets = read.map(|offset| offset as usize);
         }
         "tag" => board.tag = (arguments.number("set")? != 0, arguments.number("name")?),
@@ -386,6 +397,7 @@ fn read_line(trace: &mut Trace, words: &[&str]) -> Result<(), String> {
         "records" => board.records = read_buffer(&words[1..])?,
         "cache" => board.cache = read_buffer(&words[1..])?,
         "memory" => board.memory = read_buffer(&words[1..])?,
+        "uses" => board.uses = matrices_of(&read_buffer::<u8>(&words[1..])?)?,
         "step" => {
             let name = words.iter().skip(2).find(|word| !word.contains('=')).ok_or("the step has no call")?;
             let yes = u32::try_from(arguments.number("yes")?).map_err(|_| "yes has more than 32 bits")?;
@@ -395,6 +407,19 @@ fn read_line(trace: &mut Trace, words: &[&str]) -> Result<(), String> {
         other => return Err(format!("unknown word '{other}'")),
     }
     Ok(())
+}
+
+/// Matrices of their bytes.
+fn matrices_of(bytes: &[u8]) -> Result<Vec<Matrix>, String> {
+    if bytes.len() % MATRIX_BYTES != 0 {
+        return Err("the bytes of uses are no whole number of matrices".into());
+    }
+    let matrix = |bytes: &[u8]| {
+        let mut matrix = FRESH_MATRIX;
+        matrix.iter_mut().flatten().zip(bytes).for_each(|(entry, byte)| *entry = *byte);
+        matrix
+    };
+    Ok(bytes.chunks_exact(MATRIX_BYTES).map(matrix).collect())
 }
 
 /// A buffer's length, then its runs.

@@ -10,7 +10,7 @@ use crate::rng::Rng;
 use crate::routes::Route;
 use crate::trace::{Deed, Start, Step};
 use crate::{gen, stepped, ways};
-use model::{kind_of, Board, Call, Event, Kind, Shape, NO_TAG};
+use model::{kind_of, Board, Call, Edition, Event, Kind, Shape, NO_TAG};
 use std::fmt;
 use Event::{Hit, Miss, MissWriteBack, Refused, Uncached};
 use Whose::{Beyond, Ordinary, PageTable, Prefix0, Prefix1, User};
@@ -182,7 +182,19 @@ pub fn tried(board: &Board, call: &Call, event: Event, number: u32) -> Option<Tr
 
 // ----- the runs -----
 
-pub const SHAPE: Shape = Shape { frames: 6, uncached: 1, processes: 2, lines: 4 };
+/// With four sets, in either edition.
+pub const SETS: u64 = 4;
+
+pub fn shape(edition: Edition) -> Shape {
+    Shape { frames: 6, uncached: 1, processes: PROCESSES, lines: set_lines(edition) * SETS }
+}
+
+const PROCESSES: u64 = 2;
+
+/// As many lines of a page as push out the one before them at the place of its line 0.
+pub fn pushing(edition: Edition) -> impl Iterator<Item = u64> {
+    (1..=set_lines(edition)).map(|turn| turn * SETS)
+}
 
 /// Pages of one segment: in frame 1, writable; in frame 2, read-only; in none. Frame 3 is free.
 const PAGE: u64 = PAGE_FIRST;
@@ -231,7 +243,7 @@ pub fn access(row: &Row, width: u32, value: u32, line: u64) -> Call {
                 Refused(7) => SLOT_READ_ONLY,
                 _ => 0,
             };
-            let process = if otherwise == Refused(2) { SHAPE.processes } else { 0 };
+            let process = if otherwise == Refused(2) { PROCESSES } else { 0 };
             let address = (slot * SEGMENT_SPAN + page * PAGE_BYTES + within) as u32;
             return Call::UserAccess { process, store, width, address, value };
         }
@@ -239,7 +251,7 @@ pub fn access(row: &Row, width: u32, value: u32, line: u64) -> Call {
         (Prefix1, Refused(10)) => PREFIX1 + MAPPED_FRAME * PAGE_BYTES,
         (Prefix1, Refused(12)) => PREFIX1,
         (Prefix1, _) => PREFIX1 + FREE_FRAME * PAGE_BYTES,
-        (Prefix0, Refused(12)) => SHAPE.uncached * PAGE_BYTES,
+        (Prefix0, Refused(12)) => PAGE_BYTES,
         (Prefix0, _) => 0,
         (PageTable, _) => PAGE_TABLE,
         (Beyond, _) => GLOBAL_END,
@@ -247,21 +259,23 @@ pub fn access(row: &Row, width: u32, value: u32, line: u64) -> Call {
     Call::SupervisorAccess { store, width, global: global + within, value }
 }
 
-/// Calls after which the row's access is what it is otherwise: its line is held; or not; or another at its place, and changed.
-pub fn calls_before(row: &Row) -> Vec<Call> {
+/// Calls after which the row's access is what it is otherwise: its line is held; or not; or its place is full of others, all of
+/// them changed.
+pub fn calls_before(edition: Edition, row: &Row) -> Vec<Call> {
+    let others = || pushing(edition).map(|line| access(row, 1, 1, line));
     match row.otherwise {
         Hit => vec![access(&Row { store: false, ..*row }, 1, 0, 0)],
         Miss => vec![Call::FlushAll],
-        MissWriteBack => vec![Call::FlushAll, access(row, 1, 1, SHAPE.lines)],
+        MissWriteBack => [Call::FlushAll].into_iter().chain(others()).collect(),
         _ => vec![],
     }
 }
 
-fn calls(row: &Row, route: Route, fresh: bool) -> Vec<Call> {
+fn calls(edition: Edition, row: &Row, route: Route, fresh: bool) -> Vec<Call> {
     let mut calls = first_calls(row);
     for width in WIDTHS.into_iter().filter(|&width| row.can_be(width, route, fresh)) {
         for value in VALUES {
-            calls.extend(calls_before(row));
+            calls.extend(calls_before(edition, row));
             calls.push(access(row, width, value, 0));
         }
     }
@@ -269,11 +283,11 @@ fn calls(row: &Row, route: Route, fresh: bool) -> Vec<Call> {
 }
 
 /// A board on which the first calls can be done; for number 1, one of a wrong length.
-pub fn start(rng: &mut Rng, row: &Row, fresh: bool) -> Start {
+pub fn start(rng: &mut Rng, edition: Edition, row: &Row, fresh: bool) -> Start {
     let mut start = if fresh {
-        gen::fresh(rng, SHAPE)
+        gen::fresh(rng, edition, shape(edition))
     } else {
-        let (mut board, _) = gen::wild_board(rng, SHAPE);
+        let (mut board, _) = gen::wild_board(rng, edition, shape(edition));
         board.words[..=FREE_FRAME as usize].fill(0);
         let pages = PAGE..=PAGE + UNMAPPED;
         board.words.iter_mut().filter(|word| pages.contains(&(**word / 4))).for_each(|word| *word = 0);
@@ -287,13 +301,18 @@ pub fn start(rng: &mut Rng, row: &Row, fresh: bool) -> Start {
 }
 
 /// Gives how many boards were run: one for each row, route and kind of board.
-pub fn values(rng: &mut Rng, plant: Option<Plant>, coverage: &mut Coverage) -> Result<usize, Failure> {
+pub fn values(
+    rng: &mut Rng,
+    edition: Edition,
+    plant: Option<Plant>,
+    coverage: &mut Coverage,
+) -> Result<usize, Failure> {
     let mut boards = 0;
     coverage.planned = Some(Planned::Values);
     for (fresh, manner) in ways() {
         for row in ROWS.iter().filter(|row| WIDTHS.iter().any(|&width| row.can_be(width, manner.route, fresh))) {
-            let calls = calls(row, manner.route, fresh);
-            let start = start(rng, row, fresh);
+            let calls = calls(edition, row, manner.route, fresh);
+            let start = start(rng, edition, row, fresh);
             stepped(start, calls.len(), plant, coverage, |index, _| Step { deed: Deed::Call(calls[index]), manner })?;
             boards += 1;
         }

@@ -1,36 +1,48 @@
-//! Planted faults in which places map, unmap, protect and flush all visit, in which order, and which lines they take there:
-//! the wrong shortcuts that CR 3 invites. Each makes of a board what a library with that fault would.
+//! Planted faults in which records map, unmap, protect and flush all visit, in which order, and which lines they take there:
+//! the wrong shortcuts that CR 3 invites, and with sets of four CR 4. Each makes of a board what a library with that fault would.
 
 use crate::gen::put;
 use crate::limits::*;
-use crate::sights::{inside, places_of, Size, Sweep, Where, ANY, FEWER, HELD, MORE, NONE, PAGES, SEVERAL, SWEEPS};
-use model::{mapping, page_of_name, place_of, Board, Call, Record};
+use crate::sights::{
+    inside, records_of, stands, Size, Sweep, Where, ANY, FEWER, HELD, MORE, NONE, PAGES, SEVERAL, SWEEPS,
+};
+use model::{mapping, page_of_name, Board, Call, Edition, Record};
 use std::ops::Range;
 use Sweep::{FlushAll, MapFrame, MapPage, Protect, Unmap};
 
 /// What is wrong in a sweep.
 #[derive(Clone, Copy, Debug, PartialEq, Eq)]
 pub enum Wrong {
-    /// No place is visited.
+    /// No record is visited.
     Forgets,
-    /// The last place is not visited.
+    /// The last record is not visited.
     ShortEnd,
-    /// The first place is not visited.
+    /// The first record is not visited.
     ShortStart,
     /// Of fewer places than a page has names, only the first half is visited.
     Half,
     /// The places of the page after it are visited.
     NextPage,
-    /// The places from page mod L up are visited.
+    /// The places from page mod their number up are visited.
     PageModLines,
     /// The frame's places are visited only where they are the page's.
     PagePlaces,
     /// The first 256 places are visited.
     FirstPlaces,
-    /// By falling place.
+    /// By falling record.
     Falling,
     /// By rising name.
     ByName,
+    /// Of each set only the first line is visited.
+    FirstLines,
+    /// Of each set only the first three lines are visited.
+    ThreeLines,
+    /// So many records as there are places are visited.
+    AsPlaces,
+    /// The records from the first place up are visited, as if one stood at each place.
+    PlaceAsRecord,
+    /// The first line of each set, then the second of each, and so on.
+    ByLine,
     /// Names are not compared.
     AnyName,
     /// The low 20 bits of page numbers are compared.
@@ -52,7 +64,7 @@ pub enum Wrong {
 }
 
 /// With its name, and where it shows.
-pub const WRONGS: [(Wrong, &str, Where); 19] = [
+pub const WRONGS: [(Wrong, &str, Where); 24] = [
     (Wrong::Forgets, "forgets", at(PAGES, HELD, ANY)),
     (Wrong::ShortEnd, "short-end", at(EACH, EACH_HELD, ANY)),
     (Wrong::ShortStart, "short-start", at(EACH, EACH_HELD, ANY)),
@@ -72,7 +84,21 @@ pub const WRONGS: [(Wrong, &str, Where); 19] = [
     (Wrong::Prefix1, "prefix-1", at(&[Unmap, Protect], NONE, ANY)),
     (Wrong::WritesBack, "writes-back", at(&[MapPage, MapFrame], NONE, ANY)),
     (Wrong::ThroughMap, "through-map", at(&[Unmap], NONE, ANY)),
+    (Wrong::FirstLines, "first-lines", at(EACH, EACH_HELD, ANY)),
+    (Wrong::ThreeLines, "three-lines", at(EACH, EACH_HELD, ANY)),
+    (Wrong::AsPlaces, "as-places", at(EACH, EACH_HELD, ANY)),
+    (Wrong::PlaceAsRecord, "place-as-record", at(PAGES, HELD, MORE)),
+    (Wrong::ByLine, "by-line", at(&[Unmap, FlushAll], NONE, SEVERAL)),
 ];
+
+impl Wrong {
+    /// Whether there is such a fault in an edition: some are of sets of four.
+    pub fn is_of(self, edition: Edition) -> bool {
+        use Wrong::*;
+        let of_sets = matches!(self, FirstLines | ThreeLines | AsPlaces | PlaceAsRecord | ByLine);
+        !of_sets || edition == Edition::Fours
+    }
+}
 
 const EACH: &[Sweep] = &[MapPage, MapFrame, Unmap, Protect, FlushAll];
 const EACH_HELD: &[Sweep] = &[MapFrame, Unmap, Protect, FlushAll];
@@ -125,7 +151,8 @@ impl Walk {
                 vec![pass(page, dropped), right(PREFIX1_PAGE + frame, Act::Drop)]
             }
             (Call::Map { page, frame, .. }, MapFrame) => {
-                let within = if is(Wrong::PagePlaces) { places_of(page, all.end) } else { all.clone() };
+                let own = || records_of(page, board.edition, all.end);
+                let within = if is(Wrong::PagePlaces) { own() } else { all.clone() };
                 vec![right(page, Act::Drop), Pass { within, ..pass(PREFIX1_PAGE + frame, dropped) }]
             }
             (Call::Unmap { page }, Unmap) => {
@@ -148,7 +175,7 @@ enum Act {
     Permit(bool),
 }
 
-/// A way over the places of a page, or over all, and what is done with the lines of that page, or with all.
+/// A way over the records at the places of a page, or over all, and what is done with the lines of that page, or with all.
 struct Pass {
     wrong: Option<Wrong>,
     page: Option<u64>,
@@ -158,41 +185,49 @@ struct Pass {
 
 impl Pass {
     fn make(&self, board: &mut Board) {
-        for place in self.places(board) {
-            if self.takes(board, place) {
-                self.act(board, place);
+        for at in self.records(board) {
+            if self.takes(board, at) {
+                self.act(board, at);
             }
         }
     }
 
-    /// The places in the order in which they are visited.
-    fn places(&self, board: &Board) -> Vec<u64> {
-        let lines = board.shape.lines;
-        let own = |page: u64| places_of(page, lines);
+    /// The records in the order in which they are visited.
+    fn records(&self, board: &Board) -> Vec<u64> {
+        let (lines, of_set) = (board.shape.lines, set_lines(board.edition));
+        let sets = sets_of(board.edition, lines);
+        let own = |page: u64| records_of(page, board.edition, lines);
         let Range { start, end } = self.page.map_or(0..lines, own);
-        let few = lines < LINES_PER_PAGE;
-        let mut places: Vec<u64> = match (self.wrong, self.page) {
+        let few = sets < LINES_PER_PAGE;
+        let mut records: Vec<u64> = match (self.wrong, self.page) {
             (Some(Wrong::Forgets), _) => Vec::new(),
             (Some(Wrong::ShortEnd), _) => (start..end - 1).collect(),
             (Some(Wrong::ShortStart), _) => (start + 1..end).collect(),
             (Some(Wrong::Half), _) if few => (0..lines.div_ceil(2)).collect(),
             (Some(Wrong::NextPage), Some(page)) => own(page + 1).collect(),
             (Some(Wrong::PageModLines), Some(page)) if !few => {
-                (0..LINES_PER_PAGE).map(|index| (page + index) % lines).collect()
+                let places = (0..LINES_PER_PAGE).map(|index| (page + index) % sets);
+                places.flat_map(|place| of_set * place..of_set * (place + 1)).collect()
             }
-            (Some(Wrong::FirstPlaces), _) => (0..lines.min(LINES_PER_PAGE)).collect(),
+            (Some(Wrong::FirstPlaces), _) => (0..lines.min(of_set * LINES_PER_PAGE)).collect(),
             (Some(Wrong::Falling), _) => (start..end).rev().collect(),
+            (Some(Wrong::AsPlaces), _) => (start..start + (end - start) / of_set).collect(),
+            (Some(Wrong::PlaceAsRecord), _) => (start / of_set..start / of_set + (end - start)).collect(),
             _ => (start..end).collect(),
         };
-        if self.wrong == Some(Wrong::ByName) {
-            places.sort_by_key(|&place| board.record(place).name);
+        match self.wrong {
+            Some(Wrong::ByName) => records.sort_by_key(|&at| board.record(at).name),
+            Some(Wrong::ByLine) => records.sort_by_key(|&at| at % of_set),
+            Some(Wrong::FirstLines) => records.retain(|at| at % of_set == 0),
+            Some(Wrong::ThreeLines) => records.retain(|at| at % of_set < 3),
+            _ => {}
         }
-        places.retain(|place| self.within.contains(place));
-        places
+        records.retain(|at| self.within.contains(at));
+        records
     }
 
-    fn takes(&self, board: &Board, place: u64) -> bool {
-        let Record { name, line, valid, .. } = board.record(place);
+    fn takes(&self, board: &Board, at: u64) -> bool {
+        let Record { name, line, valid, .. } = board.record(at);
         let is = |wrong: Wrong| self.wrong == Some(wrong);
         let named = |page: u64| match self.wrong {
             Some(Wrong::AnyName) => true,
@@ -202,24 +237,24 @@ impl Pass {
         };
         self.page.map_or(true, named)
             && (valid || is(Wrong::Invalid))
-            && (place_of(name, board.shape.lines) == place || is(Wrong::Strays))
+            && (stands(board, name, at) || is(Wrong::Strays))
             && (inside(board, line) || is(Wrong::Beyond))
     }
 
-    fn act(&self, board: &mut Board, place: u64) {
-        let record = board.record(place);
+    fn act(&self, board: &mut Board, at: u64) {
+        let record = board.record(at);
         let left = match self.act {
             Act::Drop => NOTHING,
             Act::WriteBack(through) => {
                 let line = through.map_or(record.line, |frame| line_in(frame, record.name));
                 if record.changed && inside(board, line) {
-                    board.memory[line_bytes(line)].copy_from_slice(&board.cache[line_bytes(place)]);
+                    board.memory[line_bytes(line)].copy_from_slice(&board.cache[line_bytes(at)]);
                 }
                 NOTHING
             }
             Act::Permit(write) => Record { write, ..record },
         };
-        put(board, place, left.encode());
+        put(board, at, left.encode());
     }
 }
 

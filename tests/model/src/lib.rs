@@ -2,8 +2,9 @@
 //! written from those alone. A test oracle: clear and exact, not fast. Quotations are 01's, or a request's where it is named;
 //! "decided" marks a reading.
 //!
-//! * [`Board`]  the machine with its cache. [`Board::step`] also gives the [`Event`] for coverage; [`Board::list`], which does
-//!   many user accesses, gives one for each.
+//! * [`Board`]  the machine with its cache, in either [`Edition`]: what the two share is written once, over the number of lines
+//!   in a set. [`Board::step`] also gives the [`Event`] for coverage; [`Board::list`], which does many user accesses, gives one
+//!   for each.
 //! * [`Plain`]  the machine without a cache.
 //! * [`log`]    the log of calls (CR 1); [`samples`] makes the sample logs of `examples/logs`.
 //!
@@ -152,6 +153,62 @@ pub fn value_refused(store: bool, width: u32, value: u32) -> bool {
 }
 
 // ---------------------------------------------------------------------------------------------
+// Editions
+// ---------------------------------------------------------------------------------------------
+
+/// The editions of the cache: 01's, with one line to a place, which is a set of one here; and CR 4's, "with sets of four".
+#[derive(Clone, Copy, Debug, PartialEq, Eq)]
+pub enum Edition {
+    Ones,
+    Fours,
+}
+
+/// How many lines a set of CR 4's edition has.
+const FOUR: usize = 4;
+
+/// "a four by four matrix of who was used after whom, one row to each line": row a has a one in column b if line a was used
+/// after line b. Decided: an entry that is not 0 is a one.
+pub type Matrix = [[u8; FOUR]; FOUR];
+
+/// "0 when fresh".
+pub const FRESH_MATRIX: Matrix = [[0; FOUR]; FOUR];
+
+impl Edition {
+    pub const ALL: [Edition; 2] = [Edition::Ones, Edition::Fours];
+
+    /// What the editions differ in.
+    pub fn lines_in_set(self) -> u64 {
+        match self {
+            Edition::Ones => 1,
+            Edition::Fours => FOUR as u64,
+        }
+    }
+
+    /// "The set keeps a four by four matrix": so many with this number of lines. Sets of one keep none.
+    pub fn matrices(self, lines: u64) -> u64 {
+        match self {
+            Edition::Ones => 0,
+            Edition::Fours => lines / self.lines_in_set(),
+        }
+    }
+}
+
+/// A use of a line: "sets the line's row and then clears its column". So the diagonal is 0.
+pub fn used(matrix: &Matrix, line: usize) -> Matrix {
+    let mut after = *matrix;
+    after[line] = [1; FOUR];
+    for row in &mut after {
+        row[line] = 0;
+    }
+    after
+}
+
+/// How many ones a row has.
+pub fn ones(row: &[u8; FOUR]) -> usize {
+    row.iter().filter(|&&entry| entry != 0).count()
+}
+
+// ---------------------------------------------------------------------------------------------
 // Shape and number 1
 // ---------------------------------------------------------------------------------------------
 
@@ -163,12 +220,13 @@ pub struct Shape {
     pub lines: u64,
 }
 
-/// F, P and L from 1 to their limits, "Frames below U (0 to F)", "and L must have exactly one bit set."
-pub fn limits_hold(s: &Shape) -> bool {
+/// F, P and L from 1 to their limits, "Frames below U (0 to F)", "and L must have exactly one bit set." By CR 4, "L below 4
+/// gives 1" where sets have four lines: there is a set at least.
+pub fn limits_hold(edition: Edition, s: &Shape) -> bool {
     (1..=FRAMES_MAX).contains(&s.frames)
         && s.uncached <= s.frames
         && (1..=PROCESSES_MAX).contains(&s.processes)
-        && (1..=LINES_MAX).contains(&s.lines)
+        && (edition.lines_in_set()..=LINES_MAX).contains(&s.lines)
         && s.lines.count_ones() == 1
 }
 
@@ -179,17 +237,20 @@ pub struct Lengths {
     pub records: u64,
     pub cache: u64,
     pub memory: u64,
+    /// In matrices.
+    pub uses: u64,
 }
 
 /// The contrary of number 1: "buffer lengths or F, U, P, L disagree or are out of limits".
-/// The limits come first, so the products below are small.
-pub fn shape_fits(s: &Shape, n: &Lengths) -> bool {
-    limits_hold(s)
+/// The limits come first, so the products below are small. Decided: the matrices' length counts as the other buffers' do.
+pub fn shape_fits(edition: Edition, s: &Shape, n: &Lengths) -> bool {
+    limits_hold(edition, s)
         && n.slots == SLOTS * s.processes
         && n.words == s.frames
         && n.records == 2 * s.lines
         && n.cache == LINE_BYTES * s.lines
         && n.memory == PAGE_BYTES * s.frames
+        && n.uses == edition.matrices(s.lines)
 }
 
 // ---------------------------------------------------------------------------------------------
@@ -296,9 +357,10 @@ impl Record {
     }
 }
 
-/// "Its place is name mod L." (L is at least 1 once number 1 has been asked.)
-pub fn place_of(name: u64, lines: u64) -> u64 {
-    name % lines
+/// "Its place is name mod L", and by CR 4 "name mod (L / 4)": by the number of sets, as many as there are places. (That is at
+/// least 1 once number 1 has been asked.)
+pub fn place_of(name: u64, sets: u64) -> u64 {
+    name % sets
 }
 
 // ---------------------------------------------------------------------------------------------
@@ -374,7 +436,7 @@ pub enum Event {
     Hit,
     /// Access: filled, nothing written back.
     Miss,
-    /// Access: the old line at that place was held and changed, so written back, then filled.
+    /// Access: the old line there was held and changed, so written back, then filled.
     MissWriteBack,
     /// Prefix 0 access.
     Uncached,
@@ -507,6 +569,7 @@ type Outcome = Result<(u32, Event), u32>;
 
 #[derive(Clone, Debug, PartialEq, Eq)]
 pub struct Board {
+    pub edition: Edition,
     pub shape: Shape,
     /// 512 for each process.
     pub slots: Vec<u32>,
@@ -518,21 +581,30 @@ pub struct Board {
     pub cache: Vec<u8>,
     /// 4096 for each frame.
     pub memory: Vec<u8>,
+    /// One for each set of four: none in 01's edition.
+    pub uses: Vec<Matrix>,
     /// Pending or not, and the line name. If not pending the name means nothing.
     pub tag: (bool, u64),
 }
 
 impl Board {
+    /// A fresh board of 01's edition.
+    pub fn fresh(shape: Shape) -> Board {
+        Board::fresh_of(Edition::Ones, shape)
+    }
+
     /// "Fresh: slots and frame words 0, records not valid, nothing pending, memory any bytes" (here
     /// 0). Lengths agree with the shape, which isn't checked: meant for shapes of moderate size.
-    pub fn fresh(shape: Shape) -> Board {
+    pub fn fresh_of(edition: Edition, shape: Shape) -> Board {
         Board {
+            edition,
             shape,
             slots: vec![0; (SLOTS * shape.processes) as usize],
             words: vec![0; shape.frames as usize],
             records: vec![0; (2 * shape.lines) as usize],
             cache: vec![0; (LINE_BYTES * shape.lines) as usize],
             memory: vec![0; (PAGE_BYTES * shape.frames) as usize],
+            uses: vec![FRESH_MATRIX; edition.matrices(shape.lines) as usize],
             tag: (false, 0),
         }
     }
@@ -570,6 +642,16 @@ impl Board {
     /// and change nothing)". Gives the list's own answer, and what each access did. Decided: the number is 1, and a list gets
     /// it too, an empty one as well, where a single call would; a list that is done has number, value and mark 0.
     pub fn list(&mut self, accesses: &[u32], answers: &mut [Answer]) -> (Answer, Vec<Event>) {
+        self.list_seen(accesses, answers, |_, _| ())
+    }
+
+    /// The same, and `see` sees the board before each access.
+    pub fn list_seen(
+        &mut self,
+        accesses: &[u32],
+        answers: &mut [Answer],
+        mut see: impl FnMut(&Board, &Call),
+    ) -> (Answer, Vec<Event>) {
         let own = |number| Answer { number, value: 0, mark: mark::NO_ACCESS };
         let refusal = ask(1, !self.fits()).and_then(|()| ask(1, !list_fits(accesses.len(), answers.len())));
         if let Err(number) = refusal {
@@ -577,6 +659,7 @@ impl Board {
         }
         let mut events = Vec::with_capacity(answers.len());
         for (call, answer) in calls_of(accesses).zip(answers) {
+            see(self, &call);
             let (given, event) = self.step(&call);
             *answer = given;
             events.push(event);
@@ -591,9 +674,9 @@ impl Board {
         if let Err(number) = refusal {
             return (number, Vec::new());
         }
-        let holder = (0..self.shape.lines).find(|&place| self.held(place).is_some_and(|r| r.line == line));
+        let holder = self.all_records().find(|&at| self.held(at).is_some_and(|r| r.line == line));
         let bytes = match holder {
-            Some(place) => &self.cache[line_range(place)],
+            Some(at) => &self.cache[line_range(at)],
             None => &self.memory[line_range(line)],
         };
         (0, bytes.to_vec())
@@ -608,66 +691,128 @@ impl Board {
             records: self.records.len() as u64,
             cache: self.cache.len() as u64,
             memory: self.memory.len() as u64,
+            uses: self.uses.len() as u64,
         }
     }
 
     /// Number 1 doesn't apply. Decided: asked of the whole board by every call.
     pub fn fits(&self) -> bool {
-        shape_fits(&self.shape, &self.lengths())
+        shape_fits(self.edition, &self.shape, &self.lengths())
     }
 
-    // ----- records (all asked only of a board that fits) -----
+    // ----- sets (this, and all that follows, is asked only of a board that fits) -----
+
+    /// How many sets there are: as many as places.
+    pub fn sets(&self) -> u64 {
+        self.shape.lines / self.edition.lines_in_set()
+    }
+
+    /// All records, by rising number.
+    pub fn all_records(&self) -> std::ops::Range<u64> {
+        0..self.shape.lines
+    }
+
+    /// "records 4 × place to 4 × place + 3"; in 01's edition the one record at the place.
+    pub fn records_at(&self, place: u64) -> std::ops::Range<u64> {
+        let lines = self.edition.lines_in_set();
+        lines * place..lines * (place + 1)
+    }
+
+    /// The place at which a record stands, and which line of the set there it is.
+    fn stand_of(&self, at: u64) -> (u64, usize) {
+        let lines = self.edition.lines_in_set();
+        (at / lines, (at % lines) as usize)
+    }
+
+    /// A use of the line of this record. Sets of one keep no matrix.
+    fn use_line(&mut self, at: u64) {
+        let (place, line) = self.stand_of(at);
+        if self.edition == Edition::Fours {
+            let matrix = &mut self.uses[place as usize];
+            *matrix = used(matrix, line);
+        }
+    }
+
+    /// "The victim is the lowest empty line, else the lowest whose row has the fewest ones." Decided: empty is what holds
+    /// nothing. A set of one has its one line, empty or not.
+    pub fn victim(&self, place: u64) -> u64 {
+        let empty = self.records_at(place).find(|&at| self.held(at).is_none());
+        // Of several with as few, the first is taken.
+        let least_used = || self.records_at(place).min_by_key(|&at| self.ones_of(at)).expect("a set has a line");
+        empty.unwrap_or_else(least_used)
+    }
+
+    fn ones_of(&self, at: u64) -> usize {
+        let (place, line) = self.stand_of(at);
+        match self.edition {
+            Edition::Ones => 0,
+            Edition::Fours => ones(&self.uses[place as usize][line]),
+        }
+    }
+
+    /// The record with which an access to a line of this name is done: the one that holds the line, else the victim.
+    pub fn record_for(&self, name: u64) -> u64 {
+        self.holder(name).unwrap_or_else(|| self.victim(place_of(name, self.sets())))
+    }
+
+    // ----- records -----
 
     /// "A physical line given by a caller is below 256 × F"; "its physical line is inside memory".
     fn line_in_memory(&self, line: u64) -> bool {
         line < LINES_PER_PAGE * self.shape.frames
     }
 
-    pub fn record(&self, place: u64) -> Record {
-        let at = 2 * place as usize;
+    /// A record, by its number: in 01's edition that is its place.
+    pub fn record(&self, at: u64) -> Record {
+        let at = 2 * at as usize;
         Record::decode(self.records[at], self.records[at + 1])
     }
 
-    fn set_record(&mut self, place: u64, record: Record) {
-        let at = 2 * place as usize;
+    fn set_record(&mut self, at: u64, record: Record) {
+        let at = 2 * at as usize;
         (self.records[at], self.records[at + 1]) = record.encode();
     }
 
     /// "A record holds a line only if it is valid, stands at its place and its physical line is
     /// inside memory. Otherwise it counts as empty". Decided: if and only if; any 64-bit name.
-    pub fn held(&self, place: u64) -> Option<Record> {
-        let record = self.record(place);
-        let holds =
-            record.valid && place_of(record.name, self.shape.lines) == place && self.line_in_memory(record.line);
+    pub fn held(&self, at: u64) -> Option<Record> {
+        let record = self.record(at);
+        let stands = || self.records_at(place_of(record.name, self.sets())).contains(&at);
+        let holds = record.valid && stands() && self.line_in_memory(record.line);
         holds.then_some(record)
     }
 
-    /// The held record of this name. Decided: a hit goes by the whole name
-    /// alone.
-    pub fn held_by_name(&self, name: u64) -> Option<Record> {
-        self.held(place_of(name, self.shape.lines)).filter(|record| record.name == name)
+    /// The record that holds a line of this name. Decided: a hit goes by the whole name alone; of a name twice in a set the
+    /// lowest record counts.
+    pub fn holder(&self, name: u64) -> Option<u64> {
+        let mut records = self.records_at(place_of(name, self.sets()));
+        records.find(|&at| self.held(at).is_some_and(|record| record.name == name))
     }
 
-    /// The places of all held lines "named in the page", "by rising place". All places are asked: that CR 3 has a call visit
+    pub fn held_by_name(&self, name: u64) -> Option<Record> {
+        self.holder(name).map(|at| self.record(at))
+    }
+
+    /// The records of all held lines "named in the page", "by rising place". All records are asked: that CR 3 has a call visit
     /// some only may not show.
     fn held_in_page(&self, page: u64) -> Vec<u64> {
-        (0..self.shape.lines).filter(|&place| self.held(place).is_some_and(|r| page_of_name(r.name) == page)).collect()
+        self.all_records().filter(|&at| self.held(at).is_some_and(|r| page_of_name(r.name) == page)).collect()
     }
 
     /// "To drop a line sets its record to not valid and all its fields to 0; its sixteen bytes
-    /// stay." Asked only of held lines: "Only held lines are dropped".
-    fn drop_line(&mut self, place: u64) {
+    /// stay." Asked only of held lines: "Only held lines are dropped". CR 4: "drops leave the matrix".
+    fn drop_line(&mut self, at: u64) {
         let empty = Record { name: 0, line: 0, changed: false, write: false, valid: false };
-        self.set_record(place, empty);
+        self.set_record(at, empty);
     }
 
-    /// Writes the line at this place to its record's own physical line if it is held and changed
+    /// Writes the line of this record to the record's own physical line if it is held and changed
     /// (not "through the present map"); a record that holds nothing "is never written back".
     /// The record stays. Whether it was written.
-    fn write_back(&mut self, place: u64) -> bool {
-        match self.held(place) {
+    fn write_back(&mut self, at: u64) -> bool {
+        match self.held(at) {
             Some(record) if record.changed => {
-                self.memory[line_range(record.line)].copy_from_slice(&self.cache[line_range(place)]);
+                self.memory[line_range(record.line)].copy_from_slice(&self.cache[line_range(at)]);
                 true
             }
             _ => false,
@@ -676,32 +821,34 @@ impl Board {
 
     /// Writes back the changed ones of these held lines, "by rising place", and drops them all.
     /// How many were written and dropped.
-    fn write_back_and_drop(&mut self, places: &[u64]) -> (u64, u64) {
+    fn write_back_and_drop(&mut self, records: &[u64]) -> (u64, u64) {
         let mut written = 0;
-        for &place in places {
-            if self.write_back(place) {
+        for &at in records {
+            if self.write_back(at) {
                 written += 1;
             }
-            self.drop_line(place);
+            self.drop_line(at);
         }
-        (written, places.len() as u64)
+        (written, records.len() as u64)
     }
 
     /// "A miss writes the old line at that place back if it is held and changed, then fills the
     /// line's own sixteen bytes inside the cache bytes. The record then has the new name and
     /// physical line, not changed, and the page's present permission." Decided: fills from memory,
-    /// never from another record. Whether the old line was written back.
-    fn refill(&mut self, name: u64, line: u64, write: bool) -> bool {
-        let place = place_of(name, self.shape.lines);
-        let wrote_back = self.write_back(place);
-        self.cache[line_range(place)].copy_from_slice(&self.memory[line_range(line)]);
-        self.set_record(place, Record { name, line, changed: false, write, valid: true });
-        wrote_back
+    /// never from another record. Asked only if no record holds the line; the old line is the
+    /// victim. An insertion is a use. Gives the record, and whether the old line was written back.
+    fn refill(&mut self, name: u64, line: u64, write: bool) -> (u64, bool) {
+        let at = self.victim(place_of(name, self.sets()));
+        let wrote_back = self.write_back(at);
+        self.cache[line_range(at)].copy_from_slice(&self.memory[line_range(line)]);
+        self.set_record(at, Record { name, line, changed: false, write, valid: true });
+        self.use_line(at);
+        (at, wrote_back)
     }
 
     /// A cached access that is not refused: refill from `source` (physical line, permission) unless
-    /// the line is held; then the cached bytes. "A store changes the cached line only and marks it
-    /// changed. An access alters no record but the one at its own place."
+    /// the line is held; then the cached bytes, and a use. "A store changes the cached line only and
+    /// marks it changed. An access alters no record but the one at its own place."
     fn cached_access(
         &mut self,
         store: bool,
@@ -711,23 +858,21 @@ impl Board {
         source: Option<(u64, bool)>,
     ) -> (u32, Event) {
         let name = name_of(global);
-        let place = place_of(name, self.shape.lines);
-        let event = if self.held_by_name(name).is_some() {
-            Event::Hit
-        } else {
-            let (line, write) = source.expect("number 8 has been asked");
-            if self.refill(name, line, write) {
-                Event::MissWriteBack
-            } else {
-                Event::Miss
+        let (at, event) = match self.holder(name) {
+            Some(at) => (at, Event::Hit),
+            None => {
+                let (line, write) = source.expect("number 8 has been asked");
+                let (at, wrote_back) = self.refill(name, line, write);
+                (at, if wrote_back { Event::MissWriteBack } else { Event::Miss })
             }
         };
-        let at = place * LINE_BYTES + global % LINE_BYTES;
-        let answer = transfer(&mut self.cache, at, store, width, value);
+        let byte = at * LINE_BYTES + global % LINE_BYTES;
+        let answer = transfer(&mut self.cache, byte, store, width, value);
         if store {
-            let record = self.record(place);
-            self.set_record(place, Record { changed: true, ..record });
+            let record = self.record(at);
+            self.set_record(at, Record { changed: true, ..record });
         }
+        self.use_line(at);
         (answer, event)
     }
 
@@ -833,8 +978,8 @@ impl Board {
         ask(11, mapping(&self.shape, &self.words, page).is_some())?;
         let by_page = self.held_in_page(page);
         let by_prefix1 = self.held_in_page(prefix1_page(frame));
-        for &place in by_page.iter().chain(&by_prefix1) {
-            self.drop_line(place);
+        for &at in by_page.iter().chain(&by_prefix1) {
+            self.drop_line(at);
         }
         self.memory[frame_range(frame)].fill(0);
         self.words[frame as usize] = frame_word(page, write);
@@ -848,8 +993,8 @@ impl Board {
         ask(1, !self.fits())?;
         ask(2, !page_in_range(page))?;
         let (frame, _) = mapping(&self.shape, &self.words, page).ok_or(8u32)?;
-        let places = self.held_in_page(page);
-        let (written, dropped) = self.write_back_and_drop(&places);
+        let records = self.held_in_page(page);
+        let (written, dropped) = self.write_back_and_drop(&records);
         self.words[frame as usize] = 0;
         Ok((0, Event::Unmapped { written, dropped }))
     }
@@ -859,20 +1004,20 @@ impl Board {
         ask(1, !self.fits())?;
         ask(2, !page_in_range(page))?;
         let (frame, _) = mapping(&self.shape, &self.words, page).ok_or(8u32)?;
-        let places = self.held_in_page(page);
-        for &place in &places {
-            let record = self.record(place);
-            self.set_record(place, Record { write, ..record });
+        let records = self.held_in_page(page);
+        for &at in &records {
+            let record = self.record(at);
+            self.set_record(at, Record { write, ..record });
         }
         self.words[frame as usize] = frame_word(page, write);
-        Ok((0, Event::Protected { lines: places.len() as u64 }))
+        Ok((0, Event::Protected { lines: records.len() as u64 }))
     }
 
     /// "Flush all: writes back every changed line, drops all."
     fn do_flush_all(&mut self) -> Outcome {
         ask(1, !self.fits())?;
-        let places: Vec<u64> = (0..self.shape.lines).filter(|&place| self.held(place).is_some()).collect();
-        let (written, dropped) = self.write_back_and_drop(&places);
+        let records: Vec<u64> = self.all_records().filter(|&at| self.held(at).is_some()).collect();
+        let (written, dropped) = self.write_back_and_drop(&records);
         Ok((0, Event::Flushed { written, dropped }))
     }
 
@@ -889,7 +1034,7 @@ impl Board {
 
     /// "Load-and-map inserts the line with the page's present permission; if the line is held
     /// already it only clears the tag, so a changed line isn't lost." Decided: 8 and 13 are asked
-    /// of the page map even if the line is held; held by name, at its place.
+    /// of the page map even if the line is held; held by name, at its place, and then it is no use.
     fn do_load_and_map(&mut self, line: u64) -> Outcome {
         ask(1, !self.fits())?;
         ask(2, !self.line_in_memory(line))?;
@@ -901,7 +1046,8 @@ impl Board {
             Event::FoundHeld
         } else {
             // "A load-and-map fills in the same way."
-            Event::Inserted { wrote_back: self.refill(name, line, write) }
+            let (_, wrote_back) = self.refill(name, line, write);
+            Event::Inserted { wrote_back }
         };
         self.tag = NO_TAG;
         Ok((0, event))
@@ -927,6 +1073,7 @@ pub const NO_TAG: (bool, u64) = (false, 0);
 /// the same numbers and lengths as the board.
 #[derive(Clone, Debug, PartialEq, Eq)]
 pub struct Plain {
+    pub edition: Edition,
     pub shape: Shape,
     pub slots: Vec<u32>,
     pub words: Vec<u64>,
@@ -936,6 +1083,8 @@ pub struct Plain {
     pub records_len: usize,
     /// Number of cache bytes the board has (16 × L if it fits).
     pub cache_len: usize,
+    /// Number of matrices the board has.
+    pub uses_len: usize,
 }
 
 impl Plain {
@@ -943,6 +1092,7 @@ impl Plain {
     /// memory and tag. Of other boards, cached bytes are forgotten.
     pub fn of(board: &Board) -> Plain {
         Plain {
+            edition: board.edition,
             shape: board.shape,
             slots: board.slots.clone(),
             words: board.words.clone(),
@@ -950,6 +1100,7 @@ impl Plain {
             tag: board.tag,
             records_len: board.records.len(),
             cache_len: board.cache.len(),
+            uses_len: board.uses.len(),
         }
     }
 
@@ -990,8 +1141,9 @@ impl Plain {
             records: self.records_len as u64,
             cache: self.cache_len as u64,
             memory: self.memory.len() as u64,
+            uses: self.uses_len as u64,
         };
-        shape_fits(&self.shape, &lengths)
+        shape_fits(self.edition, &self.shape, &lengths)
     }
 
     fn call(&mut self, call: &Call) -> Result<u32, u32> {

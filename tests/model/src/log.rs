@@ -2,7 +2,7 @@
 //! Quotations are CR 1's; "decided" marks a reading. The reader takes a log as it is, whole: that a log may come "in pieces cut
 //! anywhere" is for the test that cuts it.
 
-use crate::{limits_hold, Answer, Board, Call, Shape};
+use crate::{limits_hold, Answer, Board, Call, Edition, Shape};
 use std::fmt::Write;
 
 // ---------------------------------------------------------------------------------------------
@@ -321,10 +321,15 @@ pub struct Replayed {
     pub refusal: Option<(u64, String)>,
 }
 
-/// Makes the calls of a log "from zeroed memory". Where there is a largest board, a log of a larger one is refused: "else refuses
-/// at 0". Decided: that is asked once the four numbers are read, before any later refusal; other numbers that are out of their
-/// limits are replayed, and every call is answered by 1.
+/// Makes the calls of a log "from zeroed memory", on a board of 01's edition. Where there is a largest board, a log of a larger
+/// one is refused: "else refuses at 0". Decided: that is asked once the four numbers are read, before any later refusal; other
+/// numbers that are out of their limits are replayed, and every call is answered by 1.
 pub fn replay(log: &[u8], largest: Option<Largest>) -> Replayed {
+    replay_in(Edition::Ones, log, largest)
+}
+
+/// The same in either edition of CR 4: the log carries none.
+pub fn replay_in(edition: Edition, log: &[u8], largest: Option<Largest>) -> Replayed {
     let Log { header, calls, refusal, .. } = read(log);
     let refusal = refusal.map(|Refusal { reason, place }| (place, reason.words().to_string()));
     let Some(shape) = header else { return Replayed { answers: Vec::new(), refusal } };
@@ -334,17 +339,17 @@ pub fn replay(log: &[u8], largest: Option<Largest>) -> Replayed {
             return Replayed { answers: Vec::new(), refusal: Some((0, words)) };
         }
     }
-    let mut board = zeroed(shape);
+    let mut board = zeroed(edition, shape);
     Replayed { answers: calls.iter().map(|call| board.step(call).0).collect(), refusal }
 }
 
 /// A fresh board of zeros. Out of limits, whatever the lengths are every call is answered by 1, so there are no buffers then.
-fn zeroed(shape: Shape) -> Board {
-    if limits_hold(&shape) {
-        return Board::fresh(shape);
+pub fn zeroed(edition: Edition, shape: Shape) -> Board {
+    if limits_hold(edition, &shape) {
+        return Board::fresh_of(edition, shape);
     }
     let none = Shape { frames: 0, uncached: 0, processes: 0, lines: 0 };
-    Board { shape, ..Board::fresh(none) }
+    Board { shape, ..Board::fresh_of(edition, none) }
 }
 
 impl Replayed {

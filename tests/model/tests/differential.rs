@@ -1,4 +1,4 @@
-//! The board against the plain machine, from fresh boards.
+//! The board against the plain machine, from fresh boards, in both editions.
 mod common;
 use common::*;
 use model::*;
@@ -124,13 +124,17 @@ fn call(r: &mut Rng, b: &Board) -> Call {
 
 #[test]
 fn board_against_plain() {
+    Edition::ALL.into_iter().for_each(against_plain);
+}
+
+fn against_plain(edition: Edition) {
     let mut r = Rng(0x0123_4567_89AB_CDEF);
     let mut numbers = [0u32; 14];
     let mut events: BTreeMap<String, u32> = BTreeMap::new();
     for round in 0..50 {
         let frames = 2 + r.below(4);
-        let s = shape(frames, r.below(frames.min(3)), 1 + r.below(3), 1 << (round % 5));
-        let mut board = Board::fresh(s);
+        let s = shape(frames, r.below(frames.min(3)), 1 + r.below(3), edition.lines_in_set() << (round % 5));
+        let mut board = Board::fresh_of(edition, s);
         board.memory.iter_mut().for_each(|x| *x = r.next() as u8);
         // "records not valid": their other fields and the cache bytes may be anything.
         board.cache.iter_mut().for_each(|x| *x = r.next() as u8);

@@ -70,17 +70,18 @@ fn a_list_is_the_single_calls() {
     let mut r = Rng(0xFEDC_BA98_7654_3210);
     let mut numbers = [0u32; 14];
     let mut marks = [0u32; 5];
-    for round in 0..60 {
-        let s = shape(2 + r.below(4), r.below(2), 1 + r.below(3), 1 << (round % 4));
-        let fresh = round % 3 != 0;
-        let mut board = Board::fresh(s);
+    for (round, edition) in (0..120).zip(Edition::ALL.into_iter().cycle()) {
+        let s = shape(2 + r.below(4), r.below(2), 1 + r.below(3), edition.lines_in_set() << (round / 2 % 4));
+        let fresh = round / 2 % 3 != 0;
+        let mut board = Board::fresh_of(edition, s);
         board.memory.iter_mut().for_each(|byte| *byte = r.next() as u8);
         if !fresh {
             board.cache.iter_mut().for_each(|byte| *byte = r.next() as u8);
-            for place in 0..s.lines {
-                let name = 0x2000_0000 + r.below(3) * 256 + place;
-                put(&mut board, place, rec(name, r.below(256 * s.frames + 4), r.flip(), r.flip()));
+            for at in 0..s.lines {
+                let name = 0x2000_0000 + r.below(3) * 256 + at / edition.lines_in_set();
+                put(&mut board, at, rec(name, r.below(256 * s.frames + 4), r.flip(), r.flip()));
             }
+            board.uses.iter_mut().for_each(|matrix| *matrix = r.matrix());
             board.words.iter_mut().for_each(|word| *word = frame_word(0x20_0000 + r.below(3), r.flip()));
             board.tag = (r.chance(4), 0x2000_0000);
         }

@@ -354,13 +354,12 @@ fn session_as_a_log() {
     assert_eq!(cut.complaint(), "replay: log refused at byte 18, after 2 calls: the log is cut\n");
 }
 
-/// A replay gives what the calls give on a fresh board of zeros.
+/// A replay gives what the calls give on a fresh board of zeros, in either edition.
 #[test]
 fn replays_are_runs() {
     let mut r = Rng(0x0F1E_2D3C_4B5A_6978);
     for _ in 0..300 {
         let shape = shape(1 + r.below(8), r.below(3), 1 + r.below(16), r.below(9));
-        let mut board = Board::fresh(shape);
         let near = |r: &mut Rng| match call(r) {
             Call::Map { write, .. } => Call::Map { page: 0x20_0000 + r.below(2), frame: r.below(8), write },
             Call::UserAccess { store, value, .. } => {
@@ -371,10 +370,19 @@ fn replays_are_runs() {
             other => other,
         };
         let calls: Vec<Call> = (0..60).map(|_| near(&mut r)).collect();
-        let answers: Vec<Answer> = calls.iter().map(|call| board.step(call).0).collect();
         let log = write(&shape, &calls).unwrap();
-        assert_eq!(replay(&log, Some(PROGRAM)), Replayed { answers: answers.clone(), refusal: None });
-        assert_eq!(replay(&log, None), Replayed { answers, refusal: None });
+        for edition in Edition::ALL {
+            let mut board = Board::fresh_of(edition, shape);
+            let answers: Vec<Answer> = calls.iter().map(|call| board.step(call).0).collect();
+            let replayed = Replayed { answers, refusal: None };
+            assert_eq!(replay_in(edition, &log, Some(PROGRAM)), replayed);
+            assert_eq!(replay_in(edition, &log, None), replayed);
+            // The same but for marks, unless there are too few lines for a set.
+            let replies = |of: &Replayed| of.answers.iter().map(|a| (a.number, a.value)).collect::<Vec<_>>();
+            let first = replay(&log, None);
+            assert!(replies(&first) == replies(&replayed) || !board.fits(), "{edition:?}");
+            assert!(first == replayed || edition == Edition::Fours);
+        }
     }
 }
 

@@ -138,12 +138,15 @@ fn values_and_widths() {
 #[test]
 fn line_counts() {
     // "01's case L = 65,536 becomes taken and 131,072 gives 1."
-    for (lines, number) in
-        [(0, 1), (1, 0), (2, 0), (3, 1), (6, 1), (32_768, 0), (65_535, 1), (65_536, 0), (65_537, 1), (131_072, 1)]
-    {
-        let mut b = Board::fresh(shape(2, 1, 1, lines));
-        assert_eq!(b.look(0).0, number, "{lines}");
-        assert_eq!(b.flush_all(), no(number), "{lines}");
+    let far = [(32_768, 0), (65_535, 1), (65_536, 0), (65_537, 1), (131_072, 1)];
+    let near = [(0, 1), (1, 0), (2, 0), (3, 1), (4, 0), (6, 1)];
+    let near_fours = [(0, 1), (1, 1), (2, 1), (3, 1), (4, 0), (6, 1), (8, 0)];
+    for (edition, near) in [(Edition::Ones, &near[..]), (Edition::Fours, &near_fours[..])] {
+        for &(lines, number) in near.iter().chain(&far) {
+            let mut b = Board::fresh_of(edition, shape(2, 1, 1, lines));
+            assert_eq!(b.look(0).0, number, "{edition:?} {lines}");
+            assert_eq!(b.flush_all(), no(number), "{edition:?} {lines}");
+        }
     }
 }
 
@@ -163,23 +166,29 @@ fn largest_cache() {
 
 #[test]
 fn limits_alone() {
-    let good = shape(4, 1, 2, 2);
-    assert!(limits_hold(&good));
+    Edition::ALL.into_iter().for_each(limits_of);
+}
+
+fn limits_of(edition: Edition) {
+    let good = shape(4, 1, 2, 8);
+    assert!(limits_hold(edition, &good));
     for (frames, ok) in [(0, false), (1, true), (1_048_576, true), (1_048_577, false), (u64::MAX, false)] {
-        assert_eq!(limits_hold(&Shape { frames, uncached: 0, ..good }), ok, "F {frames}");
+        assert_eq!(limits_hold(edition, &Shape { frames, uncached: 0, ..good }), ok, "F {frames}");
     }
     for (uncached, ok) in [(0, true), (4, true), (5, false), (u64::MAX, false)] {
-        assert_eq!(limits_hold(&Shape { uncached, ..good }), ok, "U {uncached}");
+        assert_eq!(limits_hold(edition, &Shape { uncached, ..good }), ok, "U {uncached}");
     }
     for (processes, ok) in [(0, false), (1, true), (17, true), (64, true), (65, false), (u64::MAX, false)] {
-        assert_eq!(limits_hold(&Shape { processes, ..good }), ok, "P {processes}");
+        assert_eq!(limits_hold(edition, &Shape { processes, ..good }), ok, "P {processes}");
     }
     for lines in 0..140_000u64 {
-        let ok = lines <= 65_536 && lines.is_power_of_two();
-        assert_eq!(limits_hold(&Shape { lines, ..good }), ok, "L {lines}");
+        // "L below 4 gives 1" with sets of four.
+        let least = if edition == Edition::Fours { 4 } else { 1 };
+        let ok = lines >= least && lines <= 65_536 && lines.is_power_of_two();
+        assert_eq!(limits_hold(edition, &Shape { lines, ..good }), ok, "L {lines}");
     }
     for lines in [u64::MAX, 1 << 63, 1 << 32] {
-        assert!(!limits_hold(&Shape { lines, ..good }));
+        assert!(!limits_hold(edition, &Shape { lines, ..good }));
     }
 }
 

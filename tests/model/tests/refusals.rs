@@ -10,9 +10,10 @@ type Row = (u32, fn(&mut Board, &mut Call));
 /// Each single row gives its number; each set of rows gives the lowest; nothing changes; and
 /// without any row the call is done. Rows stand by rising number and are applied by falling number,
 /// so that a lower one may overwrite what a higher one did. Beside each set, a store whose value
-/// does not fit its width (CR 2) is refused by 2, or by 1.
+/// does not fit its width (CR 2) is refused by 2, or by 1. In both editions.
 fn check(start: &Board, call: Call, rows: &[Row]) {
-    for set in 0u32..1 << rows.len() {
+    let starts = in_both(start);
+    for (start, set) in starts.iter().flat_map(|start| (0u32..1 << rows.len()).map(move |set| (start, set))) {
         let (mut board, mut now) = (start.clone(), call);
         let mut want = 0;
         for (i, (number, apply)) in rows.iter().enumerate().rev() {

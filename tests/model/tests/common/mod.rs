@@ -24,6 +24,10 @@ impl Rng {
     pub fn pick<T: Copy>(&mut self, of: &[T]) -> T {
         of[self.below(of.len() as u64) as usize]
     }
+    /// Any bytes, mostly 0 and 1.
+    pub fn matrix(&mut self) -> Matrix {
+        FRESH_MATRIX.map(|row| row.map(|_| if self.chance(4) { self.next() as u8 } else { self.below(2) as u8 }))
+    }
     /// A value for an access of this width: mostly one that fits it.
     pub fn value(&mut self, width: u32) -> u32 {
         let any = self.next() as u32;
@@ -120,6 +124,24 @@ pub fn ready() -> Board {
     assert_eq!(b.map(0x20_0000, 1, true), DONE);
     assert_eq!(b.attach(0, 0, 2048, true), DONE);
     b
+}
+
+/// The board, and the same with sets of four: with four times the lines. What stands at a place of the one is the first line of
+/// the set there in the other, the rest of which is empty; the matrices are fresh.
+pub fn in_both(board: &Board) -> [Board; 2] {
+    assert_eq!(board.edition, Edition::Ones);
+    let mut fours = Board::fresh_of(Edition::Fours, Shape { lines: 4 * board.shape.lines, ..board.shape });
+    for place in 0..board.shape.lines {
+        put(&mut fours, 4 * place, board.record(place));
+        let (from, to) = (16 * place as usize, 64 * place as usize);
+        fours.cache[to..to + 16].copy_from_slice(&board.cache[from..from + 16]);
+    }
+    fours.slots.clone_from(&board.slots);
+    fours.words.clone_from(&board.words);
+    fours.memory.clone_from(&board.memory);
+    fours.tag = board.tag;
+    assert!(fours.fits());
+    [board.clone(), fours]
 }
 
 /// `ready()`, with a tag pending if the call needs one.
