@@ -1,7 +1,10 @@
-//! A board's five buffers with its shape and tag: as every version begins with them, and as what each one left is compared.
+//! A board's buffers with its shape and tag: as every version begins with them, and as what each one left is compared.
 
 use crate::ordinary::Lengths;
-use oaledva::{Board, Shape};
+use oaledva::{Board, Shape, Uses};
+
+/// The bytes of a set's matrix.
+pub const MATRIX_BYTES: usize = std::mem::size_of::<Uses>();
 
 #[derive(Clone)]
 pub struct Buffers {
@@ -11,6 +14,8 @@ pub struct Buffers {
     pub records: Vec<u64>,
     pub cache: Vec<u8>,
     pub memory: Vec<u8>,
+    /// The matrices. Where a line has one place there are none.
+    pub uses: Vec<u8>,
     pub pending: Option<u64>,
 }
 
@@ -23,6 +28,7 @@ impl Buffers {
             records: board.records().to_vec(),
             cache: board.cache().to_vec(),
             memory: board.memory().to_vec(),
+            uses: board.uses().concat().concat(),
             pending: board.pending(),
         }
     }
@@ -34,6 +40,7 @@ impl Buffers {
             records: self.records.len(),
             cache: self.cache.len(),
             memory: self.memory.len(),
+            uses: self.uses.len() / MATRIX_BYTES,
         }
     }
 
@@ -43,9 +50,10 @@ impl Buffers {
     }
 }
 
-/// Calls a function of the library's kind on a board: each number and each buffer by itself, the tag, then the arguments.
+/// Calls a function of the library's kind on a board: each number and each buffer by itself, the matrices where the edition has
+/// them, the tag, then the arguments.
 macro_rules! call {
-    ($board:ident, $function:path, $($argument:expr),*) => {{
+    ($board:ident, $function:path, [$($uses:expr)?], $($argument:expr),*) => {{
         let (set, name) = $board.tag();
         // Safety: the buffers are vectors, lent with their own lengths, and borrowed mutably with their board, so that what a
         // call may write is apart from all else. So are the answers of a list.
@@ -65,6 +73,7 @@ macro_rules! call {
                 $board.cache.len(),
                 $board.memory.as_mut_ptr(),
                 $board.memory.len(),
+                $($uses.as_mut_ptr().cast(), $uses.len() / crate::board::MATRIX_BYTES,)?
                 set,
                 name,
                 $($argument),*

@@ -1,11 +1,12 @@
 //! The comparison of what two versions answered and left, and differences planted to show that it finds them.
 
 use crate::patterns::Case;
-use crate::versions::{Outcome, Version, SCAN, VERSIONS};
+use crate::versions::{versions, Outcome, Version, SCAN};
 use oaledva::ffi::{Access, Kind};
+use oaledva::Edition;
 use std::fmt::LowerHex;
 
-/// Whether a version answered and left the same as the called scan did. Else, the first difference in words.
+/// Whether a version answered and left what is right. Else, the first difference in words.
 pub fn compare(case: &Case, version: &Version, right: &Outcome, got: &Outcome) -> Result<(), String> {
     let told = |difference| format!("{}, {}: {difference}", case.name, version.words);
     answers(case, &right.answers, &got.answers).map_err(told)?;
@@ -14,20 +15,21 @@ pub fn compare(case: &Case, version: &Version, right: &Outcome, got: &Outcome) -
     same("frame word", &right.words, &got.words).map_err(told)?;
     same("record word", &right.records, &got.records).map_err(told)?;
     same("cache byte", &right.cache, &got.cache).map_err(told)?;
-    same("memory byte", &right.memory, &got.memory).map_err(told)
+    same("memory byte", &right.memory, &got.memory).map_err(told)?;
+    same("byte of the matrices", &right.uses, &got.uses).map_err(told)
 }
 
 fn answers(case: &Case, right: &[u64], got: &[u64]) -> Result<(), String> {
     let Some(at) = first_difference(right, got) else { return Ok(()) };
     let (right, got) = (answer_text(right[at]), answer_text(got[at]));
     let access = access_text(&case.accesses[at]);
-    Err(format!("access {at} ({access}) gave {got}; {} gave {right}", VERSIONS[SCAN].words))
+    Err(format!("access {at} ({access}) gave {got}; right is {right}"))
 }
 
 fn same<T: PartialEq + LowerHex>(what: &str, right: &[T], got: &[T]) -> Result<(), String> {
     let Some(at) = first_difference(right, got) else { return Ok(()) };
     let (right, got) = (&right[at], &got[at]);
-    Err(format!("{what} {at} is {got:#x} at the end; {} left {right:#x}", VERSIONS[SCAN].words))
+    Err(format!("{what} {at} is {got:#x} at the end; right is {right:#x}"))
 }
 
 fn first_difference<T: PartialEq>(right: &[T], got: &[T]) -> Option<usize> {
@@ -63,10 +65,11 @@ pub enum Plant {
     Records,
     Cache,
     Memory,
+    Uses,
 }
 
 /// By name.
-pub const PLANTS: [(&str, Plant); 9] = [
+pub const PLANTS: [(&str, Plant); 10] = [
     ("number", Plant::Number),
     ("mark", Plant::Mark),
     ("value", Plant::Value),
@@ -76,7 +79,16 @@ pub const PLANTS: [(&str, Plant); 9] = [
     ("records", Plant::Records),
     ("cache", Plant::Cache),
     ("memory", Plant::Memory),
+    ("uses", Plant::Uses),
 ];
+
+/// Those that an edition has: where a line has one place there are no matrices.
+pub fn plants(edition: Edition) -> &'static [(&'static str, Plant)] {
+    match edition {
+        Edition::OnePlace => &PLANTS[..PLANTS.len() - 1],
+        Edition::SetsOfFour => &PLANTS,
+    }
+}
 
 impl Plant {
     /// Flips a bit: of an answer in the middle, or of a buffer's last element.
@@ -93,15 +105,16 @@ impl Plant {
             Plant::Records => *board.records.last_mut().expect("a board has lines") ^= 1,
             Plant::Cache => *board.cache.last_mut().expect("a board has lines") ^= 1,
             Plant::Memory => *board.memory.last_mut().expect("a board has frames") ^= 1,
+            Plant::Uses => *board.uses.last_mut().expect("a board with sets of four has matrices") ^= 1,
         }
     }
 }
 
 /// Shows that each difference is found in each version.
 pub fn finds_each(case: &Case) -> Result<(), String> {
-    let right = VERSIONS[SCAN].run(case);
-    for version in &VERSIONS {
-        for (name, plant) in PLANTS {
+    let right = versions(case.edition)[SCAN].run(case);
+    for version in versions(case.edition) {
+        for &(name, plant) in plants(case.edition) {
             let mut got = version.run(case);
             plant.into(&mut got);
             if compare(case, version, &right, &got).is_ok() {

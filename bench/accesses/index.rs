@@ -4,7 +4,8 @@
 
 use crate::board::Buffers;
 use crate::ordinary::{
-    agree, line_name, lines, load, mark, number, slot_index, store, Answer, LINES_PER_PAGE, LINE_BYTES, SEGMENTS,
+    agree, line_name, lines, load, mark, number, slot_index, store, Answer, LINES_PER_PAGE, LINE_BYTES, ONE_PLACE,
+    SEGMENTS,
 };
 use oaledva::ffi::{Access, Kind};
 use oaledva::Shape;
@@ -65,7 +66,7 @@ pub struct Index {
 
 impl Index {
     pub fn new(board: &Buffers) -> Index {
-        assert!(agree(board.shape, &board.lengths()), "the board's buffers don't agree with its shape");
+        assert!(agree::<ONE_PLACE>(board.shape, &board.lengths()), "the board's buffers don't agree with its shape");
         let records = board.records.chunks_exact(2).zip(lines(&board.cache));
         Index {
             shape: board.shape,
@@ -87,6 +88,7 @@ impl Index {
             records: self.lines.iter().flat_map(record).collect(),
             cache: self.lines.iter().flat_map(|line| line.bytes).collect(),
             memory: self.memory.concat(),
+            uses: Vec::new(),
             pending: self.pending,
         }
     }

@@ -5,6 +5,7 @@ mod compare;
 mod counts;
 mod index;
 mod measure;
+mod misfits;
 mod ordinary;
 mod ours;
 mod patterns;
@@ -17,13 +18,14 @@ mod times;
 mod versions;
 mod words;
 
-use compare::PLANTS;
+use compare::{plants, PLANTS};
 use counts::Counts;
 use measure::Planted;
-use patterns::{Pattern, PATTERNS};
+use oaledva::Edition;
+use patterns::{all_patterns, Case, Pattern, PATTERNS, TWO_PAGES};
 use report::Method;
 use std::process::ExitCode;
-use versions::{Version, SCAN, VERSIONS};
+use versions::{versions, Outcome, Version, EDITIONS, SCAN};
 use words::{named, number, once_or_twice, read};
 
 const USAGE: &str = "usage: accesses [--accesses N] [--rounds N] [--emulated] [--counts FILE] [--plant WHAT VERSION]
@@ -37,6 +39,7 @@ const ROUNDS: usize = 15;
 const COUNTED: usize = 20_000;
 /// Enough for the comparison to fail at.
 const PLANTED_ACCESSES: usize = 1000;
+const MISFIT_ACCESSES: usize = 20;
 
 struct Options {
     accesses: usize,
@@ -45,7 +48,7 @@ struct Options {
     brief: bool,
     counts: Counts,
     planted: Planted,
-    count: Option<(&'static Pattern, &'static Version, usize)>,
+    count: Option<(Case, &'static Version, usize)>,
     names: Option<Vec<&'static str>>,
 }
 
@@ -68,13 +71,17 @@ fn options(mut arguments: impl Iterator<Item = String>) -> Result<Options, Strin
             "--emulated" => options.emulated = true,
             "--brief" => options.brief = true,
             "--counts" => options.counts = counts::counts(&read(&value()?)?, COUNTED)?,
-            "--plant" => options.planted = Some((named(&PLANTS, &value()?)?, version(&value()?)?.name)),
-            "--count" => {
-                let (pattern, version) = (Pattern::named(&value()?)?, version(&value()?)?);
-                options.count = Some((pattern, version, once_or_twice(&value()?)? * COUNTED));
+            "--plant" => {
+                let (plant, (edition, version)) = (value()?, version(&value()?)?);
+                options.planted = Some((named(plants(edition), &plant)?, version.name));
             }
-            "--patterns" => options.names = Some(PATTERNS.iter().map(|pattern| pattern.name).collect()),
-            "--versions" => options.names = Some(VERSIONS.iter().map(|version| version.name).collect()),
+            "--count" => {
+                let (pattern, (edition, version)) = (Pattern::named(&value()?)?, version(&value()?)?);
+                let count = once_or_twice(&value()?)? * COUNTED;
+                options.count = Some((pattern.case(edition, 2 * COUNTED), version, count));
+            }
+            "--patterns" => options.names = Some(all_patterns().map(|pattern| pattern.name).collect()),
+            "--versions" => options.names = Some(versions::all().map(|(_, version)| version.name).collect()),
             "--plants" => options.names = Some(PLANTS.iter().map(|(name, _)| *name).collect()),
             _ => return Err(format!("unknown option '{option}'")),
         }
@@ -82,8 +89,8 @@ fn options(mut arguments: impl Iterator<Item = String>) -> Result<Options, Strin
     Ok(options)
 }
 
-fn version(word: &str) -> Result<&'static Version, String> {
-    VERSIONS.iter().find(|version| version.name == word).ok_or(format!("there is no version '{word}'"))
+fn version(word: &str) -> Result<(Edition, &'static Version), String> {
+    versions::all().find(|(_, version)| version.name == word).ok_or(format!("there is no version '{word}'"))
 }
 
 fn main() -> ExitCode {
@@ -96,8 +103,8 @@ fn main() -> ExitCode {
             names.iter().for_each(|name| println!("{name}"));
             Ok(())
         }
-        Ok(Options { count: Some((pattern, version, count)), .. }) => {
-            version.run_first(&pattern.case(2 * COUNTED), count);
+        Ok(Options { count: Some((case, version, count)), .. }) => {
+            version.run_first(&case, count);
             Ok(())
         }
         Ok(Options { brief: true, planted, .. }) => brief(planted),
@@ -114,59 +121,88 @@ fn main() -> ExitCode {
 
 /// The comparisons alone.
 fn brief(planted: Planted) -> Result<(), String> {
-    for pattern in &PATTERNS {
-        let case = pattern.case(BRIEF_ACCESSES);
-        let right = VERSIONS[SCAN].run(&case);
-        measure::compare_all(&case, &right, planted)?;
-        println!("{}", report::measured(pattern, &case, &right));
+    for edition in EDITIONS {
+        for pattern in all_patterns() {
+            let (case, right) = run(pattern, edition, BRIEF_ACCESSES);
+            measure::compare_all(&case, &right, planted)?;
+            println!("{}", report::measured(pattern, &case, &right));
+        }
+        refused(edition, planted)?;
+        compare::finds_each(&PATTERNS[0].case(edition, PLANTED_ACCESSES))?;
     }
-    refused(planted)?;
-    compare::finds_each(&PATTERNS[0].case(PLANTED_ACCESSES))?;
     println!(
         "accesses: {} versions, {BRIEF_ACCESSES} accesses each time: all answers and buffers equal; each of {} differences, \
-         planted in each version, was found",
-        VERSIONS.len(),
-        PLANTS.len()
+         planted one at a time, was found",
+        versions::all().count(),
+        versions::all().map(|(edition, _)| plants(edition).len()).sum::<usize>()
     );
     Ok(())
 }
 
-/// Compares accesses of which many are refused.
-fn refused(planted: Planted) -> Result<(), String> {
-    for refusals in refusals::all(BRIEF_ACCESSES) {
-        let right = VERSIONS[SCAN].run(&refusals.case);
+/// A pattern's accesses in an edition, and what is right.
+fn run(pattern: &Pattern, edition: Edition, accesses: usize) -> (Case, Outcome) {
+    let case = pattern.case(edition, accesses);
+    let right = versions(edition)[SCAN].run(&case);
+    (case, right)
+}
+
+/// Compares accesses of which many are refused, and such as are all refused by number 1.
+fn refused(edition: Edition, planted: Planted) -> Result<(), String> {
+    for refusals in refusals::all(edition, BRIEF_ACCESSES) {
+        let right = versions(edition)[SCAN].run(&refusals.case);
         refusals.reached(&right)?;
         measure::compare_all(&refusals.case, &right, planted)?;
         println!("{}", refusals.words());
     }
+    let misfits = misfits::all(edition, MISFIT_ACCESSES);
+    misfits.iter().try_for_each(measure::refused_for_shape)?;
+    println!("{}: number 1, {} boards", patterns::name_in(edition, "refusals"), misfits.len());
     Ok(())
 }
 
 fn full(options: &Options) -> Result<(), String> {
     let processor = processor::name();
     let emulated = options.emulated || processor::is_emulated(&processor);
+    measured(Edition::OnePlace, options, emulated)?;
+    println!();
+    measured(Edition::SetsOfFour, options, emulated)?;
+    two_pages(options, emulated)?;
+    println!("\nFor the comparison alone, {BRIEF_ACCESSES} accesses each:");
+    EDITIONS.into_iter().try_for_each(|edition| refused(edition, options.planted))?;
+    let Options { accesses, rounds, .. } = *options;
+    Method { accesses, counted: COUNTED, rounds, processor: &processor, emulated }.print();
+    println!("\naccesses: all answers and buffers equal, by {} versions", versions::all().count());
+    Ok(())
+}
+
+/// Every pattern in an edition.
+fn measured(edition: Edition, options: &Options, emulated: bool) -> Result<(), String> {
     let mut all = Vec::new();
     for pattern in &PATTERNS {
-        let case = pattern.case(options.accesses);
-        let right = VERSIONS[SCAN].run(&case);
+        let (case, right) = run(pattern, edition, options.accesses);
         println!("{}", report::measured(pattern, &case, &right));
         if !options.counts.is_empty() {
-            println!("{}", report::counted_hits(&VERSIONS[SCAN].run(&pattern.case(2 * COUNTED))));
+            println!("{}", report::counted_hits(&run(pattern, edition, 2 * COUNTED).1));
         }
         if emulated {
             measure::compare_all(&case, &right, options.planted)?;
         } else {
             all.push(measure::rounds(&case, &right, options.rounds, options.planted)?);
         }
-        report::table(pattern, if emulated { None } else { all.last() }, options.accesses, &options.counts);
+        report::table(pattern, edition, if emulated { None } else { all.last() }, options.accesses, &options.counts);
     }
     if !emulated {
         report::worst(&all);
     }
-    println!("\nFor the comparison alone, {BRIEF_ACCESSES} accesses each:");
-    refused(options.planted)?;
-    let Options { accesses, rounds, .. } = *options;
-    Method { accesses, counted: COUNTED, rounds, processor: &processor, emulated }.print();
-    println!("\naccesses: all answers and buffers equal, by {} versions", VERSIONS.len());
+    Ok(())
+}
+
+/// The pattern that sets of four are for, in both editions.
+fn two_pages(options: &Options, emulated: bool) -> Result<(), String> {
+    let both = EDITIONS.map(|edition| run(&TWO_PAGES, edition, options.accesses));
+    both.iter().try_for_each(|(case, right)| measure::compare_all(case, right, options.planted))?;
+    let rounds = || measure::rounds_of_both(&both, options.rounds, options.planted);
+    let times = (!emulated).then(rounds).transpose()?;
+    report::two_pages(&both, times.as_ref(), &options.counts);
     Ok(())
 }

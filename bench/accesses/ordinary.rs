@@ -1,6 +1,6 @@
 //! The ordinary version: user access as an engineer writes it from the scope document, in safe Rust and without proof. It keeps
 //! the board's buffers as they are, and finds a page as the board does, by going through the frame words. Called, inlined and
-//! behind the library's signature it is one body, `Board::access_inlined`.
+//! behind the library's signature it is one body, `Board::access_inlined`; of both editions, too, over the number of lines in a set.
 
 use crate::board::Buffers;
 use oaledva::ffi::{Access, Kind};
@@ -13,6 +13,10 @@ pub const SLOTS: usize = 512;
 pub const SEGMENT_BITS: u32 = 22;
 pub const SEGMENTS: std::ops::RangeInclusive<u32> = 2048..=4_190_207;
 pub const USER_END: u32 = 1 << 31;
+
+/// How many lines a set has, in each of the two editions.
+pub const ONE_PLACE: usize = 1;
+pub const SETS_OF_FOUR: usize = oaledva::SET_LINES;
 
 /// Why a user access is refused.
 pub mod number {
@@ -145,6 +149,18 @@ impl Record {
     fn physical(&self) -> usize {
         (self.rest / PHYSICAL) as usize
     }
+
+    /// Whether it holds a line: it is valid, stands in its set, of so many, and its physical line is inside memory.
+    #[inline(always)]
+    fn holds(&self, set: usize, sets: usize, memory_lines: usize) -> bool {
+        self.has(VALID) && set_of(self.name, sets) == set && self.physical() < memory_lines
+    }
+}
+
+/// The number of sets is a power of two.
+#[inline(always)]
+fn set_of(name: u64, sets: usize) -> usize {
+    name as usize & (sets - 1)
 }
 
 /// The frame to which a page is mapped, counted from the first of these words, and its write bit. Never inlined: the compiler
@@ -155,18 +171,51 @@ fn mapping(words: &[u64], page: u64) -> Option<(usize, bool)> {
     Some((frame, words[frame] & WRITE != 0))
 }
 
-/// A board over buffers that agree with its shape.
-pub struct Board<'a> {
+/// Who of a set was used after whom: row a, column b is not 0 if line a was used after line b.
+pub type Uses<const WAYS: usize> = [[u8; WAYS]; WAYS];
+
+/// A use of a line sets its row, then clears its column.
+#[inline(always)]
+fn used<const WAYS: usize>(uses: &mut Uses<WAYS>, line: usize) {
+    uses[line] = [1; WAYS];
+    for row in uses {
+        row[line] = 0;
+    }
+}
+
+/// The lowest line whose row has the fewest ones.
+fn used_least<const WAYS: usize>(uses: &Uses<WAYS>) -> usize {
+    let ones = |line: &usize| uses[*line].iter().filter(|&&entry| entry != 0).count();
+    (0..WAYS).min_by_key(ones).expect("a set has lines")
+}
+
+/// The line of a set to fill: the lowest that holds nothing, else the one used least. Never inlined, so that a hit has the
+/// registers.
+#[inline(never)]
+fn victim<const WAYS: usize>(
+    records: &[Record; WAYS],
+    uses: &Uses<WAYS>,
+    set: usize,
+    sets: usize,
+    memory_lines: usize,
+) -> usize {
+    let empty = records.iter().position(|record| !record.holds(set, sets, memory_lines));
+    empty.unwrap_or_else(|| used_least(uses))
+}
+
+/// A board over buffers that agree with its shape, with so many lines in a set. Where that is one there is no matrix.
+pub struct Board<'a, const WAYS: usize> {
     pub shape: Shape,
     pub slots: &'a [u32],
     pub words: &'a [u64],
-    pub records: &'a mut [Record],
-    pub cache: &'a mut [Line],
+    pub records: &'a mut [[Record; WAYS]],
+    pub cache: &'a mut [[Line; WAYS]],
     pub memory: &'a mut [Line],
+    pub uses: &'a mut [Uses<WAYS>],
     pub pending: Option<u64>,
 }
 
-impl Board<'_> {
+impl<const WAYS: usize> Board<'_, WAYS> {
     #[inline(never)]
     fn access(&mut self, access: &Access) -> Answer {
         self.access_inlined(access)
@@ -191,103 +240,125 @@ impl Board<'_> {
             return Err(number::SLOT_READ_ONLY);
         }
         let name = line_name(segment, address);
-        let place = self.place_of(name);
-        let mark = match self.held(place) {
-            Some(record) if record.name == name => {
-                if is_store && !record.has(WRITE) {
+        let set = set_of(name, self.sets());
+        let (line, mark) = match self.find(set, name) {
+            Some(line) => {
+                if is_store && !self.records[set][line].has(WRITE) {
                     return Err(number::PAGE_READ_ONLY);
                 }
-                mark::HIT
+                (line, mark::HIT)
             }
-            old => self.refill(name, place, old, is_store)?,
+            None => self.refill(name, set, is_store)?,
         };
+        if WAYS != ONE_PLACE {
+            used(&mut self.uses[set], line);
+        }
         let at = address as usize % LINE_BYTES;
         if is_store {
-            store(&mut self.cache[place], at, width, value);
-            self.records[place].rest |= CHANGED;
+            store(&mut self.cache[set][line], at, width, value);
+            self.records[set][line].rest |= CHANGED;
             Ok(Answer::done(mark, 0))
         } else {
-            Ok(Answer::done(mark, load(&self.cache[place], at, width)))
+            Ok(Answer::done(mark, load(&self.cache[set][line], at, width)))
         }
     }
 
-    #[inline(always)]
-    fn place_of(&self, name: u64) -> usize {
-        name as usize & (self.shape.lines - 1)
+    fn sets(&self) -> usize {
+        self.shape.lines / WAYS
     }
 
-    /// The record at a place, if it holds a line: it is valid, stands at its place, and its physical line is inside memory.
     #[inline(always)]
-    fn held(&self, place: usize) -> Option<Record> {
-        let record = self.records[place];
-        let holds = record.has(VALID) && self.place_of(record.name) == place && record.physical() < self.memory.len();
-        holds.then_some(record)
+    fn holds(&self, set: usize, record: &Record) -> bool {
+        record.holds(set, self.sets(), self.memory.len())
     }
 
-    /// Fills a place with the line of this name, after the old line there was written back if it was changed. Gives the mark.
+    /// The lowest line of a set that holds this name. The names are compared without a branch between them: it would be guessed
+    /// wrongly most of the time.
     #[inline(always)]
-    fn refill(&mut self, name: u64, place: usize, old: Option<Record>, is_store: bool) -> Result<u8, u8> {
+    fn find(&self, set: usize, name: u64) -> Option<usize> {
+        let records = &self.records[set];
+        let named = (0..WAYS).rev().fold(WAYS, |named, line| if records[line].name == name { line } else { named });
+        if named < WAYS && self.holds(set, &records[named]) {
+            return Some(named);
+        }
+        // On a wild board that record may hold nothing, and one above it the name.
+        (named + 1..WAYS).find(|&line| records[line].name == name && self.holds(set, &records[line]))
+    }
+
+    /// Fills a line of the set with the line of this name, after the old line there was written back if it was changed. Gives
+    /// which line, and the mark.
+    #[inline(always)]
+    fn refill(&mut self, name: u64, set: usize, is_store: bool) -> Result<(usize, u8), u8> {
         let words = &self.words[self.shape.uncached..];
         let (frame, write) = mapping(words, name / LINES_PER_PAGE as u64).ok_or(number::NOT_MAPPED)?;
         if is_store && !write {
             return Err(number::PAGE_READ_ONLY);
         }
-        let changed = old.filter(|old| old.has(CHANGED));
-        if let Some(old) = changed {
-            self.memory[old.physical()] = self.cache[place];
+        let line = match WAYS {
+            ONE_PLACE => 0,
+            _ => victim(&self.records[set], &self.uses[set], set, self.sets(), self.memory.len()),
+        };
+        let old = self.records[set][line];
+        let changed = self.holds(set, &old) && old.has(CHANGED);
+        if changed {
+            self.memory[old.physical()] = self.cache[set][line];
         }
         let physical = (self.shape.uncached + frame) * LINES_PER_PAGE + name as usize % LINES_PER_PAGE;
-        self.cache[place] = self.memory[physical];
-        self.records[place] = Record::new(name, physical, write);
-        Ok(if changed.is_some() { mark::WROTE_BACK } else { mark::REFILLED })
+        self.cache[set][line] = self.memory[physical];
+        self.records[set][line] = Record::new(name, physical, write);
+        Ok((line, if changed { mark::WROTE_BACK } else { mark::REFILLED }))
     }
 }
 
-/// How long the five buffers are, in the elements of the library's signature.
+/// How long the buffers are, in the elements of the library's signature.
 pub struct Lengths {
     pub slots: usize,
     pub words: usize,
     pub records: usize,
     pub cache: usize,
     pub memory: usize,
+    pub uses: usize,
 }
 
 /// Whether the shape keeps its limits and the lengths agree with it.
-pub fn agree(shape: Shape, lengths: &Lengths) -> bool {
+pub fn agree<const WAYS: usize>(shape: Shape, lengths: &Lengths) -> bool {
     (1..=Shape::FRAMES_MAX).contains(&shape.frames)
         && shape.uncached <= shape.frames
         && (1..=Shape::PROCESSES_MAX).contains(&shape.processes)
-        && shape.lines <= Shape::LINES_MAX
+        && (WAYS..=Shape::LINES_MAX).contains(&shape.lines)
         && shape.lines.is_power_of_two()
         && lengths.slots == SLOTS * shape.processes
         && lengths.words == shape.frames
         && lengths.records == 2 * shape.lines
         && lengths.cache == LINE_BYTES * shape.lines
         && lengths.memory == PAGE_BYTES * shape.frames
+        && (WAYS == ONE_PLACE || lengths.uses == shape.lines / WAYS)
 }
 
 /// The owner of a board's buffers. That they agree is asked once, when it is made.
-pub struct Scan {
+pub struct Scan<const WAYS: usize> {
     shape: Shape,
     slots: Vec<u32>,
     words: Vec<u64>,
-    records: Vec<Record>,
-    cache: Vec<Line>,
+    records: Vec<[Record; WAYS]>,
+    cache: Vec<[Line; WAYS]>,
     memory: Vec<Line>,
+    uses: Vec<Uses<WAYS>>,
     pending: Option<u64>,
 }
 
-impl Scan {
-    pub fn new(board: &Buffers) -> Scan {
-        assert!(agree(board.shape, &board.lengths()), "the board's buffers don't agree with its shape");
+impl<const WAYS: usize> Scan<WAYS> {
+    pub fn new(board: &Buffers) -> Scan<WAYS> {
+        assert!(agree::<WAYS>(board.shape, &board.lengths()), "the board's buffers don't agree with its shape");
         let record = |words: &[u64]| Record { name: words[0], rest: words[1] };
         Scan {
             shape: board.shape,
             slots: board.slots.clone(),
             words: board.words.clone(),
-            records: board.records.chunks_exact(2).map(record).collect(),
-            cache: lines(&board.cache),
+            records: arrays(board.records.chunks_exact(2).map(record)),
+            cache: arrays(lines(&board.cache).into_iter()),
             memory: lines(&board.memory),
+            uses: arrays(arrays(board.uses.iter().copied()).into_iter()),
             pending: board.pending,
         }
     }
@@ -297,14 +368,15 @@ impl Scan {
             shape: self.shape,
             slots: self.slots,
             words: self.words,
-            records: self.records.iter().flat_map(|record| [record.name, record.rest]).collect(),
-            cache: self.cache.concat(),
+            records: self.records.iter().flatten().flat_map(|record| [record.name, record.rest]).collect(),
+            cache: self.cache.concat().concat(),
             memory: self.memory.concat(),
+            uses: self.uses.concat().concat(),
             pending: self.pending,
         }
     }
 
-    fn lent(&mut self) -> Board<'_> {
+    fn lent(&mut self) -> Board<'_, WAYS> {
         Board {
             shape: self.shape,
             slots: &self.slots,
@@ -312,9 +384,17 @@ impl Scan {
             records: &mut self.records,
             cache: &mut self.cache,
             memory: &mut self.memory,
+            uses: &mut self.uses,
             pending: self.pending,
         }
     }
+}
+
+/// So many at a time.
+fn arrays<T, const MANY: usize>(mut all: impl ExactSizeIterator<Item = T>) -> Vec<[T; MANY]> {
+    let arrays = all.len() / MANY;
+    let mut next = || all.next().expect("there are as many");
+    (0..arrays).map(|_| std::array::from_fn(|_| next())).collect()
 }
 
 /// Bytes as lines.
@@ -324,7 +404,7 @@ pub fn lines(bytes: &[u8]) -> Vec<Line> {
 
 /// A call for each access.
 #[inline(never)]
-pub fn called(board: &mut Scan, accesses: &[Access], answers: &mut [Answer]) {
+pub fn called<const WAYS: usize>(board: &mut Scan<WAYS>, accesses: &[Access], answers: &mut [Answer]) {
     let mut board = board.lent();
     for (access, answer) in accesses.iter().zip(answers) {
         *answer = board.access(access);
@@ -333,7 +413,7 @@ pub fn called(board: &mut Scan, accesses: &[Access], answers: &mut [Answer]) {
 
 /// The body inside the loop.
 #[inline(never)]
-pub fn inlined(board: &mut Scan, accesses: &[Access], answers: &mut [Answer]) {
+pub fn inlined<const WAYS: usize>(board: &mut Scan<WAYS>, accesses: &[Access], answers: &mut [Answer]) {
     let mut board = board.lent();
     for (access, answer) in accesses.iter().zip(answers) {
         *answer = board.access_inlined(access);

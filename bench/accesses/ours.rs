@@ -1,6 +1,7 @@
-//! The library, by its raw declarations: a call for each access, or one for a list of them.
+//! The library, by its raw declarations: a call for each access, or one for a list of them; by how many lines a set has.
 
 use crate::board::{call, Buffers};
+use crate::ordinary::ONE_PLACE;
 use oaledva::ffi::{self, Access, Answer};
 
 /// How many accesses each call takes in the version with short lists.
@@ -8,26 +9,34 @@ const PIECE: usize = 64;
 
 /// A call for each access.
 #[inline(never)]
-pub fn singles(board: &mut Buffers, accesses: &[Access], answers: &mut [Answer]) {
+pub fn singles<const WAYS: usize>(board: &mut Buffers, accesses: &[Access], answers: &mut [Answer]) {
     for (&Access { process, kind, width, address, value }, answer) in accesses.iter().zip(answers) {
-        *answer = call!(board, ffi::oaledva_user_access, process as usize, kind, width, address, value);
+        *answer = if WAYS == ONE_PLACE {
+            call!(board, ffi::oaledva_user_access, [], process as usize, kind, width, address, value)
+        } else {
+            call!(board, ffi::oaledva_sets_user_access, [board.uses], process as usize, kind, width, address, value)
+        };
     }
 }
 
 /// One call for all.
 #[inline(never)]
-pub fn list(board: &mut Buffers, accesses: &[Access], answers: &mut [Answer]) {
+pub fn list<const WAYS: usize>(board: &mut Buffers, accesses: &[Access], answers: &mut [Answer]) {
     let words = accesses.len() * ffi::ACCESS_WORDS;
     let (from, into, room) = (accesses.as_ptr().cast(), answers.as_mut_ptr(), answers.len());
-    let answer = call!(board, ffi::oaledva_user_accesses, from, words, into, room);
+    let answer = if WAYS == ONE_PLACE {
+        call!(board, ffi::oaledva_user_accesses, [], from, words, into, room)
+    } else {
+        call!(board, ffi::oaledva_sets_user_accesses, [board.uses], from, words, into, room)
+    };
     assert_eq!(answer.number(), 0, "the list was refused");
 }
 
 /// A call for every 64.
 #[inline(never)]
-pub fn pieces(board: &mut Buffers, accesses: &[Access], answers: &mut [Answer]) {
+pub fn pieces<const WAYS: usize>(board: &mut Buffers, accesses: &[Access], answers: &mut [Answer]) {
     for (accesses, answers) in accesses.chunks(PIECE).zip(answers.chunks_mut(PIECE)) {
-        list(board, accesses, answers);
+        list::<WAYS>(board, accesses, answers);
     }
 }
 

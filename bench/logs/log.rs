@@ -5,7 +5,7 @@ use crate::board::Buffers;
 use crate::ordinary::SLOTS;
 use crate::patterns::Pattern;
 use oaledva::log::{Call, Entry, Writer};
-use oaledva::Shape;
+use oaledva::{Edition, Shape};
 
 pub struct Log {
     pub name: &'static str,
@@ -20,7 +20,7 @@ pub struct Log {
 
 impl Log {
     pub fn of(pattern: &Pattern, accesses: usize) -> Log {
-        let case = pattern.case(accesses);
+        let case = pattern.case(Edition::OnePlace, accesses);
         let mut calls = supervisor_calls(&case.start);
         let before = calls.len();
         calls.extend(case.accesses.into_iter().map(|access| Entry::from(access).call().expect("an access is a call")));
