@@ -2,7 +2,7 @@
 -- frame word leaves alone. Stands on `board`'s Searches and on the map laws of `pages`.
 use Prim.Native.Nat.{ℕ, zero, suc, _+_, _*_, _-_, _/_, _%_, _≤_, _<_}
 use mathlib.Core.Logic.{_≢_}
-use mathlib.Core.Path.{_≡_, refl, sym, _∙_}
+use mathlib.Core.Path.{_≡_, refl, sym, ap, _∙_}
 use mathlib.Core.Bool.{Bool, true, false, not, _&&_, _||_, cond}
 use mathlib.Core.List.{List}
 use native.Mathlib.Omega.{arith}
@@ -135,7 +135,7 @@ module _ (s : Shape) (words : List ℕ) (page f w : ℕ) (b : f < length words) 
       go false t = rw (getD-set-other words f a w 0 (eqb-false a f t))
 
   -- a word that did not name the page and does not name it now
-  mapped-set : namesPage (getD words f 0) page ≡ false → namesPage w page ≡ false → mappedTo s (set words f w) page ≡ mappedTo s words page
+  pub mapped-set : namesPage (getD words f 0) page ≡ false → namesPage w page ≡ false → mappedTo s (set words f w) page ≡ mappedTo s words page
   mapped-set x y =
       mapped-search s (set words f w) page
       ∙ rw (length-set words f w, first-same (names words page) (names (set words f w) page) (names-set x y) (s .uncached) (length words - s .uncached))
@@ -148,6 +148,42 @@ module _ (s : Shape) (words : List ℕ) (page f w : ℕ) (b : f < length words) 
       ordinary-search s (set words f w) page o
       ∙ rw (length-set words f w) (first-hit (names words page) (names (set words f w) page) f (rw (getD-set-same words f w 0 b) y)
       (λ k n. rw (getD-set-other words f k w 0 n)) (s .uncached) (length words - s .uncached) (sym (ordinary-search s words page o) ∙ h))
+
+  -- a word that comes to name a page that had no frame
+  pub mapped-new : ordinaryPage page ≡ true → s .uncached ≤ f → namesPage w page ≡ true → mappedTo s words page ≡ Nothing → mappedTo s (set words f w) page ≡ At f
+  mapped-new o u n h = go (mappedTo s (set words f w) page) refl
+    where
+      go : (found : Found) → mappedTo s (set words f w) page ≡ found → found ≡ At f
+      go Nothing e =
+          clash _ n (rw (getD-set-same words f w 0 b) at (mapped-nothing s (set words f w) page o e f u (rw (length-set words f w) b)))
+      go (At g) e = here (eqb g f) refl (mapped-frame s (set words f w) page g e)
+        where
+          here : (t : Bool) → eqb g f ≡ t → Mapped s (set words f w) page g → At g ≡ At f
+          here true t m = ap At (eqb-true g f t)
+          here false t m =
+              clash _ (rw (getD-set-other words f g w 0 (eqb-false g f t)) at (m .names))
+              (mapped-nothing s words page o h g (m .from) (rw (length-set words f w) at (m .inside)))
+
+  -- a word that names a page no more, where no other frame does
+  pub mapped-lost : namesPage w page ≡ false → ((g : ℕ) → Mapped s words page g → g ≡ f) → mappedTo s (set words f w) page ≡ Nothing
+  mapped-lost n only = go (mappedTo s (set words f w) page) refl
+    where
+      go : (found : Found) → mappedTo s (set words f w) page ≡ found → found ≡ Nothing
+      go Nothing e = refl
+      go (At g) e = absurd (here (eqb g f) refl (mapped-frame s (set words f w) page g e))
+        where
+          here : (t : Bool) → eqb g f ≡ t → Mapped s (set words f w) page g → ⊥
+          here true t m = let q : g ≡ f = eqb-true g f t in clash _ (rw (q, getD-set-same words f w 0 b) at (m .names)) n
+          here false t m =
+              let e = getD-set-other words f g w 0 (eqb-false g f t) in
+              eqb-false g f t (only g (record {
+                ordinary = m .ordinary;
+                from = m .from;
+                inside = rw (length-set words f w) at (m .inside);
+                names = rw e at (m .names);
+                page-is = rw e at (m .page-is);
+                odd = rw e at (m .odd);
+              }))
 
 -- ---- the home of a name
 

@@ -5,4 +5,5 @@ pub mod Zeroed
 pub mod Held
 pub mod Steps
 pub mod Sweeps
+pub mod Leaving
 pub mod Valid

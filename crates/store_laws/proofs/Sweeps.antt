@@ -13,6 +13,7 @@ use Rattle.address.specs.Layout.{pageLines}
 use Rattle.board.specs.declared.Shape.{Shape}
 use Rattle.board.specs.declared.Home.{Home}
 use Rattle.board.specs.declared.Home.the-variants.{Line as HomeLine}
+use Rattle.line_bytes.specs.Bytes.{lineOf}
 use Rattle.lines.specs.Records.{lineAt, putLine, noLine, permittedLine}
 use Rattle.stores.specs.Stores.{Store, writtenBack, noted, dropped}
 use Rattle.lines.specs.Holds.{holdsLine, holdsAt}
@@ -25,6 +26,7 @@ use Rattle.visits.specs.declared.Deed.the-variants.{Drop, Retire, Permit}
 use Rattle.visits.specs.declared.Visit.{Visit}
 use Rattle.lines.proofs.Records.{length-put, line-put-same, line-put-other}
 use Rattle.store_laws.proofs.Sim.{byte, Sim}
+use Rattle.store_laws.proofs.Bytes.{line-with-other}
 use Rattle.store_laws.proofs.Steps.{written-cache, length-written, evict-records, sim-evict}
 
 -- ---- what a visit makes of a record
@@ -163,6 +165,38 @@ module _ (s : Shape) (x : Store) (names : Names) where
   pub swept-memory-permit : (write : Bool) → visitedAll s (visit (Permit write) names) x .memory ≡ x .memory
   unfolding treated noted
   swept-memory-permit write = swept-memory s (visit (Permit write) names) x (λ i y. refl)
+
+-- a visit that writes back leaves the bytes of a physical line that no changed line it is for has
+module _ (s : Shape) (names : Names) (p : ℕ) where
+  -- record i has no line to be written there
+  abbrev pub Elsewhere : Store → ℕ → Type 0
+  Elsewhere x i =
+      holdsAt s (x .records) i ≡ true → named names (lineAt (x .records) i .name) ≡ true → lineAt (x .records) i .changed ≡ true
+      → lineAt (x .records) i .physical ≢ p
+
+  retired-elsewhere : (i : ℕ) (x : Store) → Elsewhere x i → lineOf (visited s (visit Retire names) i x .memory) p ≡ lineOf (x .memory) p
+  unfolding visited treated dropped noted writtenBack
+  retired-elsewhere i x h = go (holdsAt s (x .records) i) (named names (lineAt (x .records) i .name)) (lineAt (x .records) i .changed) refl refl refl
+    where
+      go : (t u c : Bool) → holdsAt s (x .records) i ≡ t → named names (lineAt (x .records) i .name) ≡ u → lineAt (x .records) i .changed ≡ c
+          → lineOf (visited s (visit Retire names) i x .memory) p ≡ lineOf (x .memory) p
+      go true true true t u c = rw (t, u, c) (line-with-other (x .memory) (x .cache) (lineAt (x .records) i .physical) i p (λ q. h t u c (sym q)))
+      go true true false t u c = rw (t, u, c)
+      go true false c t u _ = rw (t, u)
+      go false u c t _ _ = rw t
+
+  sweep-elsewhere : (n i : ℕ) (x : Store) → ((j : ℕ) → i ≤ j → j < i + n → Elsewhere x j)
+      → lineOf (sweep (visited s (visit Retire names)) n i x .memory) p ≡ lineOf (x .memory) p
+  unfolding sweep holdsAt
+  sweep-elsewhere zero i x h = refl
+  sweep-elsewhere (suc n) i x h =
+      sweep-elsewhere n (suc i) (visited s (visit Retire names) i x)
+      (λ j a b. rw (visited-other s (visit Retire names) i j x (omega arith)) (h j (omega arith) (omega arith)))
+      ∙ retired-elsewhere i x (h i (omega arith) (omega arith))
+
+  pub swept-elsewhere : (x : Store) → ((j : ℕ) → j < s .lines → Elsewhere x j) → lineOf (visitedAll s (visit Retire names) x .memory) p ≡ lineOf (x .memory) p
+  unfolding visitedAll
+  swept-elsewhere x h = sweep-elsewhere (s .lines) 0 x (λ j a b. h j (omega arith))
 
 -- ---- lines kept, dropped or relabelled, with the map and the bytes of memory changed around them
 
