@@ -21,6 +21,7 @@ no-second-outcome = record {
   map = λ s b page frame write. whole _;
   unmap = λ s b page. whole _;
   protect = λ s b page write. whole _;
+  move = λ s b page new. whole _;
   flush-all = λ s b. whole _;
   tag = λ s b name. whole _;
   load-and-map = λ s b line. whole _;

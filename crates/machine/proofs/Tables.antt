@@ -50,6 +50,12 @@ pub passed-more : (r : Row) (rows : List Row) → r .applies ≡ false → Passe
 passed-more r rows e q zero = e
 passed-more r rows e q (suc i) = q i
 
+-- then the table gives what is done
+pub table-done : {A : Type 0} (refuse : ℕ → A) (rows : List Row) (done : A) → Passed rows → byTable refuse rows done ≡ done
+unfolding byTable
+table-done refuse [] done h = refl
+table-done refuse (r ∷ rows) done h = let e = h 0 in rw e (table-done refuse rows done (λ i. h (suc i)))
+
 -- two tables of the same rows: what holds of the refusals, and of what is done where no row applies, holds of what they give
 pub table-both : {A B : Type 0} (R : A → B → Type 0) (f : ℕ → A) (g : ℕ → B) → ((n : ℕ) → R (f n) (g n)) → (rows : List Row) (x : A) (y : B)
     → (Passed rows → R x y) → R (byTable f rows x) (byTable g rows y)

@@ -86,7 +86,7 @@ withStore b x = record { slots = b .slots; words = b .words; store = x; uses = b
 abbrev pub withUse : Board → Store → Uses → Board
 withUse b x uses = record { slots = b .slots; words = b .words; store = x; uses = uses; tag = b .tag }
 
--- the frame words and the store, which map, unmap and protect change together
+-- the frame words and the store, which map, unmap, protect and move change together
 pub record Pages : Type 0 where
   pub words : List ℕ
   pub store : Store

@@ -1,4 +1,4 @@
--- 01, "Calls": attach, detach, map, unmap, protect, flush all, tag, load-and-map and drop tag.
+-- 01, "Calls": attach, detach, map, unmap, protect, flush all, tag, load-and-map and drop tag; and move (CR 9).
 -- Each call is its table, and what it does if no row applies.
 use Prim.Native.Nat.{ℕ}
 use mathlib.Core.Bool.{Bool, not, _&&_}
@@ -16,7 +16,7 @@ use Rattle.line_bytes.specs.Bytes.{zeroedFrame}
 use Rattle.stores.specs.Stores.{Store, store, inserted}
 use Rattle.lines.specs.Holds.{holderOf}
 use Rattle.lines.specs.Victims.{Uses, victimOf, usedIn}
-use Rattle.visits.specs.Visits.{mapVisit, unmapVisit, protectVisit, flushVisit, visitedAll}
+use Rattle.visits.specs.Visits.{mapVisit, unmapVisit, protectVisit, moveVisit, flushVisit, visitedAll}
 use Rattle.machine.specs.Boards.{Board, Outcome, refused, done, noTag, tagged, withSlots, withTag, withStore, withUse, withPages, Pages, pagesOf}
 use Rattle.machine.specs.Refusals.{Row, row, byTable, row1, isProcess, isSlot, isFrame, isPhysicalLine, isName, isMapped, wordInUse}
 
@@ -95,6 +95,28 @@ unfoldable pub protect : Shape → Board → ℕ → Bool → Outcome
 protect s b page write =
     byTable (refused b) (pageTable s b page)
     (done (withPages b (protected s page (foundFrame (mappedTo s (b .words) page)) write (pagesOf b))))
+
+-- ---- move (page, new page; CR 9): writes back and drops the old page's lines and those of the new name, then the frame's word gets the new page with the
+-- same write bit. The frame's bytes are kept. Of a doubled page (wild) the lowest frame's word changes, as in unmap
+
+-- 2: one of the pages is not ordinary; 8: the old page is not mapped; 11: the new one is, also if both are equal. (14 comes with CR 6, which isn't here.)
+abbrev pub moveRows : Shape → List ℕ → ℕ → ℕ → List Row
+moveRows s words page new =
+    row 2 (not (ordinaryPage page && ordinaryPage new)) ∷ row 8 (not (isMapped (mappedTo s words page))) ∷ row 11 (isMapped (mappedTo s words new)) ∷ []
+
+abbrev pub moveTable : Shape → Board → ℕ → ℕ → List Row
+moveTable s b page new = row1 s b ∷ moveRows s (b .words) page new
+
+unfoldable pub moved : Shape → ℕ → ℕ → ℕ → Pages → Pages
+moved s page new frame p = record {
+  words = set (p .words) frame (frameWord new (wordWrites (getD (p .words) frame 0)));
+  store = visitedAll s (moveVisit page new) (p .store);
+}
+
+unfoldable pub movePage : Shape → Board → ℕ → ℕ → Outcome
+movePage s b page new =
+    byTable (refused b) (moveTable s b page new)
+    (done (withPages b (moved s page new (foundFrame (mappedTo s (b .words) page)) (pagesOf b))))
 
 -- ---- flush all: writes back every changed line, drops all
 

@@ -72,6 +72,9 @@ Unmap s b page r c = outcome r c ≡ calls.unmap s b page
 abbrev pub Protect : Shape → Board → ℕ → Bool → Answer → Board → Type 0
 Protect s b page write r c = outcome r c ≡ calls.protect s b page write
 
+abbrev pub Move : Shape → Board → ℕ → ℕ → Answer → Board → Type 0
+Move s b page new r c = outcome r c ≡ calls.movePage s b page new
+
 abbrev pub FlushAll : Shape → Board → Answer → Board → Type 0
 FlushAll s b r c = outcome r c ≡ calls.flushAll s b
 
@@ -107,6 +110,7 @@ pub record NoSecondOutcome : Type 0 where
   pub map : (s : Shape) (b : Board) (page frame : ℕ) (write : Bool) → Determines (Map s b page frame write)
   pub unmap : (s : Shape) (b : Board) (page : ℕ) → Determines (Unmap s b page)
   pub protect : (s : Shape) (b : Board) (page : ℕ) (write : Bool) → Determines (Protect s b page write)
+  pub move : (s : Shape) (b : Board) (page new : ℕ) → Determines (Move s b page new)
   pub flush-all : (s : Shape) (b : Board) → Determines (FlushAll s b)
   pub tag : (s : Shape) (b : Board) (name : ℕ) → Determines (Tag s b name)
   pub load-and-map : (s : Shape) (b : Board) (line : ℕ) → Determines (LoadAndMap s b line)

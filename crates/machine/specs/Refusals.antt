@@ -105,7 +105,7 @@ isCached Cached = true
 isCached PageTable = false
 isCached Ordinary = false
 
--- 11: map: page mapped already: `isMapped`
+-- 11: map: page mapped already; move: new page mapped: `isMapped`
 
 -- 12: page table region, beyond memory, prefix 0 from U up, prefix 1 below U
 unfoldable pub outside : Shape → ℕ → Region → Bool

@@ -14,7 +14,7 @@ use Rattle.machine.specs.Boards.{Board}
 use Rattle.machine.specs.Refusals.{Row, entryTable}
 use Rattle.machine.specs.Accesses.{userTable, supervisorTable}
 use Rattle.machine.specs.Lists.{listTable}
-use Rattle.machine.specs.Calls.{attachTable, detachTable, mapTable, pageTable, flushTable, tagTable, loadAndMapTable, dropTagTable}
+use Rattle.machine.specs.Calls.{attachTable, detachTable, mapTable, pageTable, moveTable, flushTable, tagTable, loadAndMapTable, dropTagTable}
 use Rattle.machine.specs.Looks.{lookTable}
 
 -- the numbers of a table's rows rise, from `from` up
@@ -35,6 +35,7 @@ pub record TablesRise : Type 0 where
   pub map : (s : Shape) (b : Board) (page frame : ℕ) → Rises (mapTable s b page frame)
   -- unmap and protect
   pub page : (s : Shape) (b : Board) (page : ℕ) → Rises (pageTable s b page)
+  pub move : (s : Shape) (b : Board) (page new : ℕ) → Rises (moveTable s b page new)
   pub flush-all : (s : Shape) (b : Board) → Rises (flushTable s b)
   pub tag : (s : Shape) (b : Board) (name : ℕ) → Rises (tagTable s b name)
   pub load-and-map : (s : Shape) (b : Board) (line : ℕ) → Rises (loadAndMapTable s b line)

@@ -1,6 +1,6 @@
 -- The visit of a record, and sweeps from a record on.
 use Prim.Native.Nat.{ℕ, zero, suc, _+_, _-_, _≤_, _<_}
-use mathlib.Core.Path.{_≡_}
+use mathlib.Core.Path.{_≡_, _∙_}
 use mathlib.Core.Bool.{Bool, true, false}
 use mathlib.Core.List.{List}
 use native.Mathlib.Numerals.{add-one}
@@ -13,8 +13,7 @@ use Rattle.lines.specs.Holds.{holdsLine, holdsAt}
 use Rattle.ranges.specs.Ranges.{pageNames}
 use Rattle.ranges.specs.declared.Range.{Range}
 use Rattle.ranges.specs.declared.Names.the-variants.{One, Two}
-use Rattle.pages.specs.Pages.{directPage}
-use Rattle.visits.specs.Visits.{visit, mapVisit, selects, treated, visited, sweep}
+use Rattle.visits.specs.Visits.{visit, selects, treated, visited, sweep}
 use Rattle.lines.specs.declared.Line.{Line}
 use Rattle.visits.specs.declared.Deed.{Deed}
 use Rattle.visits.specs.declared.Deed.the-variants.{Drop, Retire, Permit}
@@ -22,8 +21,8 @@ use Rattle.visits.specs.declared.Visit.{Visit}
 
 -- the visits of the calls, by the ranges of their pages
 module _ (page : ℕ) (r : Range) (e : r ≡ pageNames page) where
-  pub map-is : (frame : ℕ) (q : Range) → q ≡ pageNames (directPage frame) → visit Drop (Two r q) ≡ mapVisit page frame
-  map-is frame q f = rw (e, f)
+  pub pages-are : (d : Deed) (page′ : ℕ) (q : Range) → q ≡ pageNames page′ → (v : Visit) → v ≡ visit d (Two r q) → v ≡ visit d (Two (pageNames page) (pageNames page′))
+  pages-are d page′ q f v g = g ∙ rw (e, f)
 
   pub page-is : (d : Deed) → visit d (One r) ≡ visit d (One (pageNames page))
   page-is d = rw e

@@ -1,4 +1,4 @@
--- What map, unmap, protect and flush all do to the lines, record by record and by rising record, so by rising place.
+-- What map, unmap, protect, move and flush all do to the lines, record by record and by rising record, so by rising place.
 use Prim.Native.Nat.{ℕ, zero, suc}
 use mathlib.Core.Bool.{Bool, _&&_, cond}
 use Rattle.pages.specs.Pages.{directPage}
@@ -29,6 +29,10 @@ unmapVisit page = visit Retire (One (pageNames page))
 -- protect: those named in the page get the permission
 abbrev pub protectVisit : ℕ → Bool → Visit
 protectVisit page write = visit (Permit write) (One (pageNames page))
+
+-- move: those named in the old page or in the new one are written back if changed, and dropped (CR 9)
+abbrev pub moveVisit : ℕ → ℕ → Visit
+moveVisit page new = visit Retire (Two (pageNames page) (pageNames new))
 
 -- flush all: all lines are written back if changed, and dropped
 abbrev pub flushVisit : Visit

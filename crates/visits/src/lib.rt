@@ -1,4 +1,4 @@
-// What map, unmap, protect and flush all do to the lines: what is done, and to the lines of which names. Only the places of
+// What map, unmap, protect, move and flush all do to the lines: what is done, and to the lines of which names. Only the places of
 // those names are visited.
 ghost use mathlib.Core.Path.{_≡_};
 ghost use Prim.Native.Nat.{_-_, _≤_, _<_};
@@ -9,10 +9,11 @@ ghost use Rattle.stores.specs.Premises.{Sized};
 ghost use Rattle.stores.specs.Lent.{storeBefore, storeAfter};
 ghost use Rattle.ranges.specs.Ranges.{pageNames};
 ghost use Rattle.ranges.specs.Places.{HasPlace, Inside};
-ghost use Rattle.ranges.specs.declared.Names.the-variants.{One};
-ghost use Rattle.visits.specs.Visits.{visit, mapVisit, unmapVisit, protectVisit, flushVisit, treated, visited, sweep, visitedAll};
+ghost use Rattle.ranges.specs.declared.Names.the-variants.{One, Two};
+ghost use Rattle.visits.specs.Visits.{visit, mapVisit, unmapVisit, protectVisit, moveVisit, flushVisit, treated, visited, sweep, visitedAll};
 use board::Shape;
 use ranges::Names;
+use ranges::Range;
 use ranges::Run;
 
 // What is done to a line: it is dropped; or written back if it is changed, and dropped; or given a permission.
@@ -28,6 +29,16 @@ pub struct Visit {
     pub names: Names,
 }
 
+// A deed, to the lines named in two ranges.
+fn of_ranges(deed: Deed, range: Range, other: Range) -> Visit
+    ensures { λ v. ⌜ v ≡ visit deed (Two range other) ⌝ }
+{
+    Visit {
+        deed: deed,
+        names: Names::Two(range, other),
+    }
+}
+
 // Map drops the lines named in the page or in the frame's prefix 1 range.
 pub fn of_map(page: u64, frame: usize) -> Visit
     requires { ⌜ (page < pageEnd) × (frame < maxFrames) ⌝ }
@@ -35,10 +46,7 @@ pub fn of_map(page: u64, frame: usize) -> Visit
 {
     let range = ranges::page_names(page);
     let direct = ranges::direct_names(frame);
-    Visit {
-        deed: Deed::Drop,
-        names: Names::Two(range, direct),
-    }
+    of_ranges(Deed::Drop, range, direct)
 }
 
 // A deed, to the lines named in a page.
@@ -67,6 +75,16 @@ pub fn of_protect(page: u64, write: bool) -> Visit
     ensures { λ v. ⌜ v ≡ protectVisit page write ⌝ }
 {
     of_page(Deed::Permit(write), page)
+}
+
+// Move writes back the changed lines of the old page and of the new one, and drops all of them.
+pub fn of_move(page: u64, new: u64) -> Visit
+    requires { ⌜ (page < pageEnd) × (new < pageEnd) ⌝ }
+    ensures { λ v. ⌜ v ≡ moveVisit page new ⌝ }
+{
+    let range = ranges::page_names(page);
+    let other = ranges::page_names(new);
+    of_ranges(Deed::Retire, range, other)
 }
 
 // Flush all writes back every changed line and drops all.
