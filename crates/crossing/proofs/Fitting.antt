@@ -26,7 +26,7 @@ use Rattle.machine.specs.Boards.{Board, Outcome, outcome, refused}
 use Rattle.machine.specs.Lists.{Asked, Answered, accessOn, oneByOne, Listed, listed, taken, listRefused, listDone, userAccesses}
 use Rattle.machine.specs.Refusals.{Row, byTable}
 use Rattle.machine.specs.Accesses.{performedOn, accessedBy, accessed, memoryAccess, supervisorDone, userTable, supervisorTable, userAccess, supervisorAccess}
-use Rattle.machine.specs.Calls.{attach, detach, mapPage, unmap, protect, flushAll, tag, loadAndMap, dropTag}
+use Rattle.machine.specs.Calls.{attach, detach, mapPage, unmap, protect, movePage, flushAll, tag, loadAndMap, dropTag}
 use Rattle.crossing.specs.Packing.{byteEnd, Small}
 use Rattle.crossing.specs.Answers.{AnswersFit}
 
@@ -105,7 +105,7 @@ small-listed s b (k ∷ ks) zero other z = small-user s b (k .process) (k .acces
 small-listed s b (k ∷ ks) (suc i) other z = small-listed s (accessOn s b k .after) ks i other z
 
 pub answers-fit : AnswersFit
-unfolding attach detach mapPage unmap protect flushAll tag loadAndMap dropTag lowRows
+unfolding attach detach mapPage unmap protect movePage flushAll tag loadAndMap dropTag lowRows
 answers-fit = record {
   user-access = small-user;
   user-accesses = small-list;
@@ -116,6 +116,7 @@ answers-fit = record {
   map = λ s b page frame write. small-table b _ _ refl (small-zero refl refl);
   unmap = λ s b page. small-table b _ _ refl (small-zero refl refl);
   protect = λ s b page write. small-table b _ _ refl (small-zero refl refl);
+  move = λ s b page new. small-table b _ _ refl (small-zero refl refl);
   flush-all = λ s b. small-table b _ _ refl (small-zero refl refl);
   tag = λ s b name. small-table b _ _ refl (small-zero refl refl);
   load-and-map = λ s b line. small-table b _ _ refl (small-zero refl refl);
@@ -160,6 +161,9 @@ module _ (x : Answer) (b₁ : Board) (s : Shape) (b : Board) where
 
   pub protect-small : (page : ℕ) (write : Bool) → outcome x b₁ ≡ protect s b page write → Small x
   protect-small page write h = small-is x b₁ _ (answers-fit .protect s b page write) h
+
+  pub move-small : (page new : ℕ) → outcome x b₁ ≡ movePage s b page new → Small x
+  move-small page new h = small-is x b₁ _ (answers-fit .move s b page new) h
 
   pub flush-small : outcome x b₁ ≡ flushAll s b → Small x
   flush-small h = small-is x b₁ _ (answers-fit .flush-all s b) h

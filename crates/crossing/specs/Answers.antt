@@ -12,7 +12,7 @@ use Rattle.stores.specs.declared.Access.{Access}
 use Rattle.machine.specs.Boards.{Board}
 use Rattle.machine.specs.Accesses.{userAccess, supervisorAccess}
 use Rattle.machine.specs.Lists.{Asked, oneByOne, userAccesses}
-use Rattle.machine.specs.Calls.{attach, detach, mapPage, unmap, protect, flushAll, tag, loadAndMap, dropTag}
+use Rattle.machine.specs.Calls.{attach, detach, mapPage, unmap, protect, movePage, flushAll, tag, loadAndMap, dropTag}
 use Rattle.crossing.specs.Packing.{Small}
 
 pub record AnswersFit : Type 0 where
@@ -26,6 +26,7 @@ pub record AnswersFit : Type 0 where
   pub map : (s : Shape) (b : Board) (page frame : ℕ) (write : Bool) → Small (mapPage s b page frame write .answer)
   pub unmap : (s : Shape) (b : Board) (page : ℕ) → Small (unmap s b page .answer)
   pub protect : (s : Shape) (b : Board) (page : ℕ) (write : Bool) → Small (protect s b page write .answer)
+  pub move : (s : Shape) (b : Board) (page new : ℕ) → Small (movePage s b page new .answer)
   pub flush-all : (s : Shape) (b : Board) → Small (flushAll s b .answer)
   pub tag : (s : Shape) (b : Board) (name : ℕ) → Small (tag s b name .answer)
   pub load-and-map : (s : Shape) (b : Board) (line : ℕ) → Small (loadAndMap s b line .answer)

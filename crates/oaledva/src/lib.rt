@@ -4,7 +4,7 @@ ghost use Rattle.address.specs.Addresses.{global};
 ghost use Rattle.board.specs.Lists.{isYes};
 ghost use Rattle.board.specs.declared.Pending.{Pending};
 ghost use Rattle.board.specs.Shapes.{oneLine};
-ghost use Rattle.machine.specs.Contracts.{before, after, SupervisorAccess, Attach, Detach, Map, Unmap, Protect, FlushAll, Tag, LoadAndMap, DropTag, LookNumber};
+ghost use Rattle.machine.specs.Contracts.{before, after, SupervisorAccess, Attach, Detach, Map, Unmap, Protect, Move, FlushAll, Tag, LoadAndMap, DropTag, LookNumber};
 ghost use Rattle.crossing.specs.Packing.{unpacked, tagOf, access};
 ghost use Rattle.crossing.specs.Returns.{tagBefore, returned, Meets};
 ghost use Rattle.crossing.specs.Entries.{EntryReturned};
@@ -253,6 +253,45 @@ pub extern "C" fn oaledva_protect(
         &none,
         page,
         write != 0,
+    );
+    crossing::packed_answer(x)
+}
+
+// Moves a page: its frame gets the new page, and keeps its bytes (CR 9).
+#[no_mangle]
+pub extern "C" fn oaledva_move(
+    frames: usize,
+    uncached: usize,
+    processes: usize,
+    lines: usize,
+    slots: &[u32],
+    words: &mut [u64],
+    records: &mut [u64],
+    cache: &[u8],
+    memory: &mut [u8],
+    page: u64,
+    new_page: u64,
+) -> u64
+    ensures { λ r. ⌜ ((tag : Pending) → Move (oneLine frames uncached processes lines) (before slots words records cache memory tag) page «new_page» (unpacked r) (after slots words records cache memory tag)) ⌝ }
+{
+    let none: [[[u8; 4]; 4]; 0] = [];
+    let s = Shape {
+        frames: frames,
+        uncached: uncached,
+        processes: processes,
+        lines: lines,
+        ways: 1,
+    };
+    let x = move_call::move_page(
+        s,
+        slots,
+        words,
+        records,
+        cache,
+        memory,
+        &none,
+        page,
+        new_page,
     );
     crossing::packed_answer(x)
 }

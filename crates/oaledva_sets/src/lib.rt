@@ -4,7 +4,7 @@ ghost use Rattle.address.specs.Addresses.{global};
 ghost use Rattle.board.specs.Lists.{isYes};
 ghost use Rattle.board.specs.declared.Pending.{Pending};
 ghost use Rattle.board.specs.Shapes.{fourLines};
-ghost use Rattle.machine.specs.Contracts.{setsBefore, setsAfter, SupervisorAccess, Attach, Detach, Map, Unmap, Protect, FlushAll, Tag, LoadAndMap, DropTag, LookNumber};
+ghost use Rattle.machine.specs.Contracts.{setsBefore, setsAfter, SupervisorAccess, Attach, Detach, Map, Unmap, Protect, Move, FlushAll, Tag, LoadAndMap, DropTag, LookNumber};
 ghost use Rattle.crossing.specs.Packing.{unpacked, tagOf, access};
 ghost use Rattle.crossing.specs.Returns.{tagBefore, setsReturned, Meets};
 ghost use Rattle.look_place.specs.Lends.{LookPlace};
@@ -243,6 +243,45 @@ pub extern "C" fn oaledva_sets_protect(
         uses,
         page,
         write != 0,
+    );
+    crossing::packed_answer(x)
+}
+
+// Moves a page: its frame gets the new page, and keeps its bytes (CR 9).
+#[no_mangle]
+pub extern "C" fn oaledva_sets_move(
+    frames: usize,
+    uncached: usize,
+    processes: usize,
+    lines: usize,
+    slots: &[u32],
+    words: &mut [u64],
+    records: &mut [u64],
+    cache: &[u8],
+    memory: &mut [u8],
+    uses: &[[[u8; 4]; 4]],
+    page: u64,
+    new_page: u64,
+) -> u64
+    ensures { λ r. ⌜ ((tag : Pending) → Move (fourLines frames uncached processes lines) (setsBefore slots words records cache memory uses tag) page «new_page» (unpacked r) (setsAfter slots words records cache memory uses tag)) ⌝ }
+{
+    let s = Shape {
+        frames: frames,
+        uncached: uncached,
+        processes: processes,
+        lines: lines,
+        ways: SET_LINES,
+    };
+    let x = move_call::move_page(
+        s,
+        slots,
+        words,
+        records,
+        cache,
+        memory,
+        uses,
+        page,
+        new_page,
     );
     crossing::packed_answer(x)
 }

@@ -19,8 +19,8 @@ use Rattle.stores.specs.Stores.{store}
 use Rattle.visits.specs.Visits.{unmapVisit, protectVisit, visitedAll}
 use Rattle.visits.specs.declared.Visit.{Visit}
 use Rattle.lines.specs.Victims.{Uses}
-use Rattle.machine.specs.Boards.{Board, setsBoard, Outcome, outcome, refused, done, pages, pagesOf, withPages}
-use Rattle.machine.specs.Refusals.{row, byTable, isMapped}
+use Rattle.machine.specs.Boards.{Board, setsBoard, outcome, refused, done, pages, pagesOf, withPages}
+use Rattle.machine.specs.Refusals.{Row, row, byTable, isMapped}
 use Rattle.machine.specs.Calls.{foundFrame, pageRows, unmapped, unmap, protected, protect}
 use Rattle.machine.proofs.Tables.{table-map}
 use Rattle.page_calls.specs.Checks.{pageFrame}
@@ -79,20 +79,23 @@ unfoldable pub byFrame : {A : Type 0} → (ℕ → A) → (ℕ → A) → Frame 
 byFrame refuse go (Stop n) = refuse n
 byFrame refuse go (On f) = go f
 
+-- a table that gives the one or the other does what that says
+pub frame-on : {A : Type 0} (refuse : ℕ → A) (go : ℕ → A) (rows : List Row) (f : ℕ) (k : Frame) → k ≡ byTable Stop rows (On f)
+    → byFrame refuse go k ≡ byTable refuse rows (go f)
+unfolding byFrame
+frame-on refuse go rows f k e = rw e (table-map (byFrame refuse go) Stop rows (On f))
+
 module _ (s : Shape) (slots w r c m : List ℕ) (u : Uses) (tag : Pending) (t : Bool)
     (f : t ≡ fitsShape s (length slots) (length w) (length r) (length c) (length m) (length u)) (h : t ≡ true) (page : ℕ) (a : Answer) where
   abbrev b : Board
   b = setsBoard slots w r c m u tag
 
   module _ (k : Frame) (e : k ≡ pageFrame s w page) where
-    frame-on : (go : ℕ → Outcome)
-        → byFrame (refused b) go k ≡ byTable (refused b) (pageRows s w page) (go (foundFrame (mappedTo s w page)))
-    unfolding pageFrame byFrame
-    frame-on go = rw e (table-map (byFrame (refused b) go) Stop (pageRows s w page) (On (foundFrame (mappedTo s w page))))
-
     unmap-on : byFrame (refused b) (λ x. done (withPages b (unmapped s page x (pagesOf b)))) k ≡ unmap s b page
-    unfolding unmap
-    unmap-on = frame-on (λ x. done (withPages b (unmapped s page x (pagesOf b)))) ∙ fit-table s slots w r c m u t f h (refused b) tag _ _
+    unfolding unmap pageFrame
+    unmap-on =
+        frame-on (refused b) (λ x. done (withPages b (unmapped s page x (pagesOf b)))) (pageRows s w page) _ k e
+        ∙ fit-table s slots w r c m u t f h (refused b) tag _ _
 
     pub unmap-stop : (n : ℕ) → k ≡ Stop n → a ≡ answer n 0 0 → outcome a b ≡ unmap s b page
     unfolding byFrame
@@ -107,8 +110,10 @@ module _ (s : Shape) (slots w r c m : List ℕ) (u : Uses) (tag : Pending) (t : 
 
     module _ (write : Bool) where
       protect-on : byFrame (refused b) (λ x. done (withPages b (protected s page x write (pagesOf b)))) k ≡ protect s b page write
-      unfolding protect
-      protect-on = frame-on (λ x. done (withPages b (protected s page x write (pagesOf b)))) ∙ fit-table s slots w r c m u t f h (refused b) tag _ _
+      unfolding protect pageFrame
+      protect-on =
+          frame-on (refused b) (λ x. done (withPages b (protected s page x write (pagesOf b)))) (pageRows s w page) _ k e
+          ∙ fit-table s slots w r c m u t f h (refused b) tag _ _
 
       pub protect-stop : (n : ℕ) → k ≡ Stop n → a ≡ answer n 0 0 → outcome a b ≡ protect s b page write
       unfolding byFrame

@@ -8,13 +8,13 @@ use board::Found;
 use board::Shape;
 use board::numbered;
 
-// What unmap and protect go on with: the page's frame, if no number stops them.
+// What unmap, protect and move go on with: the page's frame, if no number stops them.
 pub enum Frame {
     Stop(u32),
     On(usize),
 }
 
-// Numbers 2 and 8 of unmap and protect, or the page's frame.
+// Numbers 2 and 8 of unmap and protect (and of move, for its old page), or the page's frame.
 pub fn page_frame(s: Shape, words: &[u64], page: u64) -> Frame
     ensures { λ r. ⌜ r ≡ pageFrame s (now (words .entry)) page ⌝ }
 {
