@@ -10,14 +10,14 @@ use lib.Dec.{eqb}
 use lib.ListN.{length, getD, drop}
 use Rattle.board.specs.Shapes.{setLines, matricesOf}
 use Rattle.board.specs.declared.Shape.{Shape}
-use Rattle.board.proofs.Bools.{clash}
+use Rattle.board.proofs.Bools.{clash, and-left, and-right}
 use Rattle.board.proofs.Shapes.{matrices-four, matrices-none, Edition, one-line, four-lines, edition-is}
 use Rattle.machine.specs.Boards.{Board, fitsBoard, Fresh, refused}
 use Rattle.machine.specs.Looks.{lookNumber, look}
 use Rattle.promises.specs.Plain.{Plain, plainLookNumber, plainLook}
 use Rattle.promises.specs.Runs.{ran, gained, someMoment, Call, user, supervisor, Reply, reply, step, next, after, plainOf}
-use Rattle.promises.specs.Demand3.{atSomeMoment, Apart, withoutOthers, SameFor, repliesTo}
-use Rattle.promises.specs.Brought.{Pinned, Brought, bring, broughtNext, broughtReply, broughtAfter, broughtReplies, plainBroughtNext, plainBroughtReply, plainBroughtAfter, plainBroughtReplies, Brings, own, unfit, EachBrings, bringing, OneShape, BroughtAlike, BroughtDemand2, BroughtDemand2Sound, broughtAtSomeMoment, BroughtApart, broughtWithoutOthers, broughtRepliesTo, plainBroughtRepliesTo, BroughtSameForProcess, TwoRuns, BroughtDemand3}
+use Rattle.promises.specs.Demand3.{holds, atSomeMoment, everHolds, Apart, withoutOthers, SameFor, repliesTo, movesOf, isNothing, noMove, handedBy, handedLines, MovesAlike}
+use Rattle.promises.specs.Brought.{Pinned, Brought, bring, broughtNext, broughtReply, broughtAfter, broughtReplies, plainBroughtNext, plainBroughtReply, plainBroughtAfter, plainBroughtReplies, Brings, own, unfit, EachBrings, bringing, OneShape, BroughtAlike, BroughtDemand2, BroughtDemand2Sound, broughtAtSomeMoment, BroughtApart, broughtWithoutOthers, broughtHandedLines, broughtCalls, BroughtMovesAlike, broughtRepliesTo, plainBroughtRepliesTo, BroughtSameForProcess, TwoRuns, BroughtDemand3}
 use Rattle.promises.proofs.Shapes.{board-shaped}
 use Rattle.promises.proofs.Runs.{moment-again, ran-both, gained-both}
 use Rattle.promises.proofs.Related.{lengths-same}
@@ -26,7 +26,7 @@ use Rattle.promises.proofs.Soundness.{Stands, sound-of, stands-of, stan
 use Rattle.promises.proofs.Holding.{ever-same}
 use Rattle.promises.proofs.Follows.{Follows, Stepped, follows-now, follows-step, follows-reply, follows-number}
 use Rattle.promises.proofs.Demand2.{stepped, look-plain, look-number-plain, Unfit, unfit-call, unfit-keeps, unfit-stepped, look-unfit, look-number-unfit}
-use Rattle.promises.proofs.Demand3.{demand3}
+use Rattle.promises.proofs.Demand3.{handed-none, handed-by-same, quiet, quiet-without, demand3}
 
 -- ---- F, P and L are pinned by the lengths, and so is the edition
 
@@ -171,6 +171,12 @@ module _ (fit : Shape → Bool) where
   woven (bring t (user q a e) ∷ ks) rs = cond (fit t) (getD rs 0 refusal ∷ woven ks (drop 1 rs)) (refusal ∷ woven ks rs)
   woven (bring t (supervisor c) ∷ ks) rs = woven ks rs
 
+  -- what is shown at the supervisor's calls that fit, of what is shown at all of them
+  unfoldable sifted : List Brought → List (List ℕ) → List (List ℕ)
+  sifted [] rs = []
+  sifted (bring t (user q a e) ∷ ks) rs = sifted ks rs
+  sifted (bring t (supervisor c) ∷ ks) rs = cond (fit t) (getD rs 0 [] ∷ sifted ks (drop 1 rs)) (sifted ks (drop 1 rs))
+
   fitting-without : (process : ℕ) (ks : List Brought) → withoutOthers process (fitting ks) ≡ fitting (broughtWithoutOthers process ks)
   unfolding withoutOthers fitting broughtWithoutOthers
   fitting-without process [] = refl
@@ -232,6 +238,34 @@ module _ (fit : Shape → Bool) where
         go (fits f e) later = rw (later, f, e)
         go (refuses f e) later = rw (later, f, e) (moment-again (next s) (λ c. test (c .slots)) b (fitting ks))
 
+    -- pages that are moved in, into the segments of S, which are those of T
+    module _ (process : ℕ) (S T : ℕ → Bool) (same : (segment : ℕ) → S segment ≡ T segment) (i : ℕ) where
+      handed-fitting : (b : Board) (ks : List Brought) → FitsAre b → EachBrings s b ks
+          → handedLines T i s b (fitting ks) ≡ sifted (broughtWithoutOthers process ks) (broughtHandedLines S i b ks)
+      unfolding handedLines fitting sifted broughtWithoutOthers broughtHandedLines EachBrings
+      handed-fitting b [] h j = refl
+      handed-fitting b (bring t (supervisor c) ∷ ks) h j =
+          go (one-call t b (supervisor c) h (j .0)) (handed-fitting (step t b (supervisor c) .after) ks (fits-later t b (supervisor c) h) (j .1))
+        where
+          go : OneCall t b (supervisor c)
+              → handedLines T i s (step t b (supervisor c) .after) (fitting ks) ≡ sifted (broughtWithoutOthers process ks) (broughtHandedLines S i (step t b (supervisor c) .after) ks)
+              → handedLines T i s b (cond (fit t) (supervisor c ∷ fitting ks) (fitting ks))
+              ≡ cond (fit t) (handedBy S i t b c (movesOf c) ∷ sifted (broughtWithoutOthers process ks) (broughtHandedLines S i (step t b (supervisor c) .after) ks))
+              (sifted (broughtWithoutOthers process ks) (broughtHandedLines S i (step t b (supervisor c) .after) ks))
+          go (fits f e) later = let x = handed-by-same S T same i s b c (movesOf c) in rw (← later, f, e, x)
+          go (refuses f e) later = rw (← later, f, e)
+      handed-fitting b (bring t (user q a d) ∷ ks) h j =
+          go (eqb q process) (one-call t b (user q a d) h (j .0)) (handed-fitting (step t b (user q a d) .after) ks (fits-later t b (user q a d) h) (j .1))
+        where
+          go : (u : Bool) → OneCall t b (user q a d)
+              → handedLines T i s (step t b (user q a d) .after) (fitting ks) ≡ sifted (broughtWithoutOthers process ks) (broughtHandedLines S i (step t b (user q a d) .after) ks)
+              → handedLines T i s b (cond (fit t) (user q a d ∷ fitting ks) (fitting ks))
+              ≡ sifted (cond u (bring t (user q a d) ∷ broughtWithoutOthers process ks) (broughtWithoutOthers process ks)) (broughtHandedLines S i (step t b (user q a d) .after) ks)
+          go true (fits f e) later = rw (← later, f, e)
+          go true (refuses f e) later = rw (← later, f, e)
+          go false (fits f e) later = rw (← later, f, e)
+          go false (refuses f e) later = rw (← later, f, e)
+
     replies-fitting : (process : ℕ) (b : Board) (ks : List Brought) → FitsAre b → EachBrings s b ks
         → broughtRepliesTo process b ks ≡ woven (broughtWithoutOthers process ks) (repliesTo process s b (fitting ks))
     unfolding broughtRepliesTo repliesTo fitting woven broughtWithoutOthers EachBrings
@@ -276,21 +310,80 @@ module _ (s : Shape) (b : Board) where
     calls-same : SameFor process (calls ks) (calls ls)
     calls-same = fitting-without fit process ks ∙ ap (fitting fit) (two .same-calls) ∙ sym (fitting-without fit process ls)
 
+    brought-ever-same : (test : List ℕ → Bool) → broughtAtSomeMoment test b ks ≡ broughtAtSomeMoment test b ls
+    brought-ever-same test =
+        brought-ever test ks (two .first-brings) ∙ ever-same test s process b (calls ks) (calls ls) calls-same ∙ sym (brought-ever test ls (two .second-brings))
+
     brought-either : BroughtApart s b ks process → BroughtApart s b ls process
-    brought-either apart segment other low differs h w =
-        apart segment other low differs (same _ ∙ h) (same _ ∙ w)
-      where
-        same : (test : List ℕ → Bool) → broughtAtSomeMoment test b ks ≡ broughtAtSomeMoment test b ls
-        same test = brought-ever test ks (two .first-brings) ∙ ever-same test s process b (calls ks) (calls ls) calls-same ∙ sym (brought-ever test ls (two .second-brings))
+    brought-either apart segment other low differs h w = apart segment other low differs (brought-ever-same _ ∙ h) (brought-ever-same _ ∙ w)
 
     calls-apart : BroughtApart s b ks process → Apart s b (calls ks) process
     calls-apart apart segment other low differs h w =
         apart segment other low differs (brought-ever _ ks (two .first-brings) ∙ h) (brought-ever _ ks (two .first-brings) ∙ w)
 
+    calls-moves : BroughtMovesAlike b ks ls process → MovesAlike s b (calls ks) (calls ls) process
+    calls-moves moved i low =
+        handed-fitting fit s process _ _ ever i b ks (λ t. refl) (two .first-brings)
+        ∙ rw (two .same-calls, moved i low) (sym (handed-fitting fit s process _ _ ever i b ls (λ t. refl) (two .second-brings)))
+      where
+        ever : (segment : ℕ) → broughtAtSomeMoment (λ slots. holds slots process segment) b ks ≡ everHolds s b (calls ks) process segment
+        ever segment = brought-ever (λ slots. holds slots process segment) ks (two .first-brings)
+
     brought-replies : repliesTo process s b (calls ks) ≡ repliesTo process s b (calls ls) → broughtRepliesTo process b ks ≡ broughtRepliesTo process b ls
     brought-replies e =
         replies-fitting fit s process b ks (λ t. refl) (two .first-brings) ∙ rw (two .same-calls, e)
         (sym (replies-fitting fit s process b ls (λ t. refl) (two .second-brings)))
+
+-- ---- the premise on moves
+
+module _ (S T : ℕ → Bool) (same : (segment : ℕ) → S segment ≡ T segment) (i : ℕ) where
+  handed-same : (b : Board) (ks : List Brought) → broughtHandedLines S i b ks ≡ broughtHandedLines T i b ks
+  unfolding broughtHandedLines
+  handed-same b [] = refl
+  handed-same b (bring t (user q a e) ∷ ks) = handed-same (step t b (user q a e) .after) ks
+  handed-same b (bring t (supervisor c) ∷ ks) =
+      let e = handed-by-same S T same i t b c (movesOf c) in
+      let later = handed-same (step t b (supervisor c) .after) ks in
+      rw (e, later)
+
+brought-moves-either : (s : Shape) (b : Board) (ks ls : List Brought) (process : ℕ)
+    → TwoRuns s b ks ls process → BroughtMovesAlike b ks ls process → BroughtMovesAlike b ls ks process
+brought-moves-either s b ks ls process two h i l =
+    let e : (segment : ℕ) → broughtAtSomeMoment (λ slots. holds slots process segment) b ls ≡ broughtAtSomeMoment (λ slots. holds slots process segment) b ks =
+    λ segment. sym (brought-ever-same s b ks ls process two (λ slots. holds slots process segment)) in
+    handed-same _ _ e i b ls ∙ sym (h i l) ∙ sym (handed-same _ _ e i b ks)
+
+-- runs without moves: an empty entry for each of the supervisor's calls
+handed-quiet : (S : ℕ → Bool) (i : ℕ) (b : Board) (ks : List Brought) → noMove (broughtCalls ks) ≡ true → broughtHandedLines S i b ks ≡ quiet (broughtCalls ks)
+unfolding broughtHandedLines broughtCalls noMove quiet
+handed-quiet S i b [] h = refl
+handed-quiet S i b (bring t (user q a e) ∷ ks) h = handed-quiet S i (step t b (user q a e) .after) ks h
+handed-quiet S i b (bring t (supervisor c) ∷ ks) h =
+    let e = handed-none S i t b c (movesOf c) (and-left (isNothing (movesOf c)) (noMove (broughtCalls ks)) h) in
+    let later = handed-quiet S i (step t b (supervisor c) .after) ks (and-right (isNothing (movesOf c)) (noMove (broughtCalls ks)) h) in
+    rw (e, later)
+
+calls-without : (process : ℕ) (ks : List Brought) → broughtCalls (broughtWithoutOthers process ks) ≡ withoutOthers process (broughtCalls ks)
+unfolding broughtCalls broughtWithoutOthers withoutOthers
+calls-without process [] = refl
+calls-without process (bring t (supervisor c) ∷ ks) = ap (λ (l : List Call). supervisor c ∷ l) (calls-without process ks)
+calls-without process (bring t (user q a e) ∷ ks) = go (eqb q process) (calls-without process ks)
+  where
+    go : (u : Bool) → broughtCalls (broughtWithoutOthers process ks) ≡ withoutOthers process (broughtCalls ks)
+        → broughtCalls (cond u (bring t (user q a e) ∷ broughtWithoutOthers process ks) (broughtWithoutOthers process ks))
+        ≡ cond u (user q a e ∷ withoutOthers process (broughtCalls ks)) (withoutOthers process (broughtCalls ks))
+    go true later = ap (λ (l : List Call). user q a e ∷ l) later
+    go false later = later
+
+brought-without-moves : (s : Shape) (b : Board) (ks ls : List Brought) (process : ℕ)
+    → TwoRuns s b ks ls process → noMove (broughtCalls ks) ≡ true → BroughtMovesAlike b ks ls process
+brought-without-moves s b ks ls process two h i l =
+    let same : withoutOthers process (broughtCalls ks) ≡ withoutOthers process (broughtCalls ls) =
+    sym (calls-without process ks) ∙ ap broughtCalls (two .same-calls) ∙ calls-without process ls in
+    let k = quiet-without process (broughtCalls ks) in
+    let o = quiet-without process (broughtCalls ls) in
+    handed-quiet _ i b ks h ∙ k .0 ∙ ap quiet same ∙ sym (o .0)
+    ∙ sym (handed-quiet _ i b ls (o .1 ∙ ap noMove (sym same) ∙ sym (k .1) ∙ h))
 
 -- the replies to a process are the plain machine's
 brought-plain : (s : Shape) (b : Board) → Fresh b → (ks : List Brought) (process : ℕ) → EachBrings s b ks
@@ -302,9 +395,10 @@ brought-plain s b x ks process h = go (fitsBoard s b) refl
     go false t = brought-replies-to (Unfit s) s (unfit-stepped s) (unfit-lengths s) process b (b .store .memory) ks (record { no = t; same-length = refl }) h
 
 brought-same : (s : Shape) (b : Board) → Fresh b → (ks ls : List Brought) (process : ℕ) → TwoRuns s b ks ls process → BroughtApart s b ks process
-    → BroughtSameForProcess s b ks ls process
-brought-same s b x ks ls process two apart =
-    let r = demand3 .apart s b x (calls s b ks) (calls s b ls) process (calls-same s b ks ls process two) (calls-apart s b ks ls process two apart) in
+    → BroughtMovesAlike b ks ls process → BroughtSameForProcess s b ks ls process
+brought-same s b x ks ls process two apart moved =
+    let r = demand3 .apart s b x (calls s b ks) (calls s b ls) process (calls-same s b ks ls process two) (calls-apart s b ks ls process two apart)
+    (calls-moves s b ks ls process two moved) in
     let k = brought-after s b ks (two .first-brings) in
     let l = brought-after s b ls (two .second-brings) in
     record {
@@ -318,7 +412,9 @@ brought-same s b x ks ls process two apart =
 pub brought-demand3 : BroughtDemand3
 brought-demand3 = record {
   apart = brought-same;
+  without-moves = brought-without-moves;
   apart-either = brought-either;
+  moves-either = brought-moves-either;
   one-copy = λ s b x ks h. let k = brought-after s b ks h in rw k (demand3 .one-copy s b x (calls s b ks));
   every-valid-holds = λ s b x ks h. let k = brought-after s b ks h in rw k (demand3 .every-valid-holds s b x (calls s b ks));
   one-copy-valid = λ s b x ks h. let k = brought-after s b ks h in rw k (demand3 .one-copy-valid s b x (calls s b ks));

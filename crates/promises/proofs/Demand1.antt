@@ -34,7 +34,7 @@ use Rattle.machine.specs.Rising.{rising, Rises}
 use Rattle.machine.proofs.Tables.{Passed, passed-more, table-both}
 use Rattle.machine.proofs.Rising.{tables-rise}
 use Rattle.machine.proofs.Prefixes.{region-cached, prefix-reached}
-use Rattle.promises.specs.Runs.{Supervisor, access, attach, detach, map, unmap, protect, flushAll, tag, loadAndMap, dropTag, Call, user, supervisor, supervise, step}
+use Rattle.promises.specs.Runs.{Supervisor, access, attach, detach, map, unmap, protect, move, flushAll, tag, loadAndMap, dropTag, Call, user, supervisor, supervise, step}
 use Rattle.promises.specs.Demand1.{supervisorRows, rowsOf, appliesIn, Lowest, Demand1, ListRefusals, LookRefusals, EntryRefusals}
 
 -- ---- rising tables
@@ -186,13 +186,14 @@ module _ (s : Shape) (b : Board) where
       (tables-rise .supervisor-access s b a g)
 
   told-supervisor : (c : Supervisor) → Told b (supervisorRows s b c) (supervise s b c)
-  unfolding supervisorRows supervise board.attach board.detach board.mapPage board.unmap board.protect board.flushAll board.tag board.loadAndMap board.dropTag
+  unfolding supervisorRows supervise board.attach board.detach board.mapPage board.unmap board.protect board.movePage board.flushAll board.tag board.loadAndMap board.dropTag
   told-supervisor (access a g) = told-access a g
   told-supervisor (attach process slot segment write) = told b (supervisorRows s b (attach process slot segment write)) _ (λ q. refl) (tables-rise .attach s b process slot segment)
   told-supervisor (detach process slot) = told b (supervisorRows s b (detach process slot)) _ (λ q. refl) (tables-rise .detach s b process slot)
   told-supervisor (map page frame write) = told b (supervisorRows s b (map page frame write)) _ (λ q. refl) (tables-rise .map s b page frame)
   told-supervisor (unmap page) = told b (supervisorRows s b (unmap page)) _ (λ q. refl) (tables-rise .page s b page)
   told-supervisor (protect page write) = told b (supervisorRows s b (protect page write)) _ (λ q. refl) (tables-rise .page s b page)
+  told-supervisor (move page new) = told b (supervisorRows s b (move page new)) _ (λ q. refl) (tables-rise .move s b page new)
   told-supervisor flushAll = told b (supervisorRows s b flushAll) _ (λ q. refl) (tables-rise .flush-all s b)
   told-supervisor (tag name) = told b (supervisorRows s b (tag name)) _ (λ q. refl) (tables-rise .tag s b name)
   told-supervisor (loadAndMap line) = told b (supervisorRows s b (loadAndMap line)) _ (λ q. refl) (tables-rise .load-and-map s b line)

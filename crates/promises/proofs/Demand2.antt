@@ -14,12 +14,12 @@ use Rattle.machine.specs.Refusals.{byTable, isPhysicalLine}
 use Rattle.machine.specs.Accesses.{userTable, userAccess, supervisorTable, supervisorAccess}
 use Rattle.machine.specs.Calls as calls
 use Rattle.machine.specs.Looks.{lookNumber, look}
-use Rattle.promises.specs.Plain.{plainRefused, plainUser, plainSupervisor, plainAttach, plainDetach, plainMap, plainUnmap, plainProtect, plainFlush, plainTagging, plainLoadAndMap, plainDropTag, plainLookNumber, plainLook}
-use Rattle.promises.specs.Runs.{Supervisor, access, attach, detach, map, unmap, protect, flushAll, tag, loadAndMap, dropTag, Call, user, supervisor, supervise, step, after, plainSupervise, plainStep, plainOf}
+use Rattle.promises.specs.Plain.{plainRefused, plainUser, plainSupervisor, plainAttach, plainDetach, plainMap, plainUnmap, plainProtect, plainMove, plainFlush, plainTagging, plainLoadAndMap, plainDropTag, plainLookNumber, plainLook}
+use Rattle.promises.specs.Runs.{Supervisor, access, attach, detach, map, unmap, protect, move, flushAll, tag, loadAndMap, dropTag, Call, user, supervisor, supervise, step, after, plainSupervise, plainStep, plainOf}
 use Rattle.promises.specs.Demand2.{Alike, Demand2, Demand2Sound}
 use Rattle.page_laws.proofs.Reaching.{look-same}
 use Rattle.promises.proofs.Related.{Related, lengths-same}
-use Rattle.promises.proofs.RelatedCalls.{related-attach, related-detach, related-map, related-unmap, related-protect, related-flush, related-tag, related-load, related-drop}
+use Rattle.promises.proofs.RelatedCalls.{related-attach, related-detach, related-map, related-unmap, related-protect, related-move, related-flush, related-tag, related-load, related-drop}
 use Rattle.promises.proofs.RelatedAccesses.{related-user, related-supervisor}
 use Rattle.promises.proofs.Lengths.{fits-same}
 use Rattle.promises.proofs.PagesOnce.{pages-once-step}
@@ -34,6 +34,7 @@ related-supervise s b m x (detach process slot) = related-detach s b m (x .fits)
 related-supervise s b m x (map page frame write) = related-map s b m (x .fits) (x .sim) page frame write
 related-supervise s b m x (unmap page) = related-unmap s b m (x .fits) (x .sim) page
 related-supervise s b m x (protect page write) = related-protect s b m (x .fits) (x .sim) page write
+related-supervise s b m x (move page new) = related-move s b m (x .fits) (x .sim) page new
 related-supervise s b m x flushAll = related-flush s b m (x .fits) (x .sim)
 related-supervise s b m x (tag name) = related-tag s b m (x .fits) (x .sim) name
 related-supervise s b m x (loadAndMap line) = related-load s b m (x .fits) (x .sim) line
@@ -87,13 +88,14 @@ module _ (s : Shape) (b : Board) (m : List ℕ) (x : Unfit s b m) where
   same = x .same-length
 
   unfit-supervise : (c : Supervisor) → (supervise s b c ≡ refused b 1) × (plainSupervise s (plainOf b m) c ≡ plainRefused (plainOf b m) 1)
-  unfolding supervise plainSupervise byTable supervisorAccess supervisorTable plainSupervisor calls.attach calls.detach calls.mapPage calls.unmap calls.protect calls.flushAll calls.tag calls.loadAndMap calls.dropTag plainAttach plainDetach plainMap plainUnmap plainProtect plainFlush plainTagging plainLoadAndMap plainDropTag
+  unfolding supervise plainSupervise byTable supervisorAccess supervisorTable plainSupervisor calls.attach calls.detach calls.mapPage calls.unmap calls.protect calls.movePage calls.flushAll calls.tag calls.loadAndMap calls.dropTag plainAttach plainDetach plainMap plainUnmap plainProtect plainMove plainFlush plainTagging plainLoadAndMap plainDropTag
   unfit-supervise (access a g) = (rw no, rw (same, no))
   unfit-supervise (attach process slot segment write) = (rw no, rw (same, no))
   unfit-supervise (detach process slot) = (rw no, rw (same, no))
   unfit-supervise (map page frame write) = (rw no, rw (same, no))
   unfit-supervise (unmap page) = (rw no, rw (same, no))
   unfit-supervise (protect page write) = (rw no, rw (same, no))
+  unfit-supervise (move page new) = (rw no, rw (same, no))
   unfit-supervise flushAll = (rw no, rw (same, no))
   unfit-supervise (tag name) = (rw no, rw (same, no))
   unfit-supervise (loadAndMap line) = (rw no, rw (same, no))

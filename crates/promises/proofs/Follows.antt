@@ -1,17 +1,21 @@
 -- A plain machine that follows a board, call by call: what holds of one call holds of a list of calls.
 -- Stands on Runs, and on Apart for what is held at some moment.
-use Prim.Native.Nat.{ℕ}
+use Prim.Native.Nat.{ℕ, _+_, _*_}
 use mathlib.Core.Path.{_≡_, refl, sym, ap, _∙_}
 use mathlib.Core.Bool.{Bool}
 use mathlib.Core.List.{List, [], _∷_}
+use Rattle.address.specs.Layout.{pageLines}
+use Rattle.pages.specs.Pages.{mappedTo}
 use Rattle.board.specs.declared.Shape.{Shape}
 use Rattle.machine.specs.Boards.{Board}
+use Rattle.machine.specs.Calls.{foundFrame}
 use Rattle.machine.specs.Looks.{lookNumber, look}
 use Rattle.promises.specs.Plain.{Plain, Given, given, plainLookNumber, plainLook}
-use Rattle.promises.specs.Runs.{Call, user, supervisor, reply, step, next, after, replies, plainReply, plainStep, plainNext, plainAfter, plainReplies, plainOf}
+use Rattle.promises.specs.Runs.{Supervisor, Call, user, supervisor, reply, step, next, after, replies, plainReply, plainStep, plainNext, plainAfter, plainReplies, plainOf}
 use Rattle.promises.specs.Demand2.{Alike}
-use Rattle.promises.specs.Demand3.{atSomeMoment, repliesTo, plainRepliesTo}
-use Rattle.promises.proofs.Apart.{plainEver}
+use Rattle.promises.specs.Demand3.{atSomeMoment, repliesTo, plainRepliesTo, segmentOfPage, Moves, moves, nothing, movesOf, handedBy, handedLines}
+use Rattle.promises.proofs.Views.{plainHanded}
+use Rattle.promises.proofs.Apart.{plainEver, plainHandedLines}
 use Rattle.promises.proofs.Runs.{ran-both, gained-both, moment-both}
 
 -- the plain machine is the board with some memory, and R relates that memory to the board
@@ -82,6 +86,30 @@ module _ (R : Board → List ℕ → Type 0) (s : Shape) (stepped : (b : Board) 
       let r = stepped b m (supervisor c) x in
       let z = r .given-is in
       rw z (replies-to process (step s b (supervisor c) .after) (r .memory) ks (r .related))
+
+  -- what the pages that are moved in show, into the segments of S, which are those of T
+  module _ (shown : (b : Board) (m : List ℕ) (line : ℕ) → R b m → look s b line ≡ plainLook s (plainOf b m) line)
+      (S T : ℕ → Bool) (same : (segment : ℕ) → S segment ≡ T segment) (i : ℕ) where
+    handed-call : (b : Board) (m : List ℕ) (c : Supervisor) → R b m → (o : Moves) → handedBy S i s b c o ≡ plainHanded T i s (plainOf b m) c o
+    unfolding handedBy plainHanded step plainStep
+    handed-call b m c x nothing = refl
+    handed-call b m c x (moves page new) =
+        let z = ap (λ (g : Given). g .number) (stepped b m (supervisor c) x .given-is) in
+        rw (z, same (segmentOfPage new), same (segmentOfPage page), shown b m (foundFrame (mappedTo s (b .words) page) * pageLines + i) x)
+
+    pub handed-plain : (b : Board) (m : List ℕ) (ks : List Call) → R b m → handedLines S i s b ks ≡ plainHandedLines T i s (plainOf b m) ks
+    unfolding handedLines plainHandedLines
+    handed-plain b m [] x = refl
+    handed-plain b m (user q a e ∷ ks) x =
+        let r = stepped b m (user q a e) x in
+        let z = r .given-is in
+        rw z (handed-plain (step s b (user q a e) .after) (r .memory) ks (r .related))
+    handed-plain b m (supervisor c ∷ ks) x =
+        let r = stepped b m (supervisor c) x in
+        let z = r .given-is in
+        let e = handed-call b m c x (movesOf c) in
+        let later = handed-plain (step s b (supervisor c) .after) (r .memory) ks (r .related) in
+        rw (z, e, later)
 
   module _ (shown : (b : Board) (m : List ℕ) (line : ℕ) → R b m → look s b line ≡ plainLook s (plainOf b m) line)
       (asked : (b : Board) (m : List ℕ) (line : ℕ) → R b m → lookNumber s b line ≡ plainLookNumber s (plainOf b m) line) where

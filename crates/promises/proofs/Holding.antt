@@ -14,7 +14,7 @@ use Rattle.machine.specs.Refusals.{Row, row, byTable, isProcess, isSlot}
 use Rattle.machine.specs.Accesses.{userAccess, supervisorAccess}
 use Rattle.machine.specs.Calls as board
 use Rattle.machine.proofs.Tables.{table-both}
-use Rattle.promises.specs.Runs.{someMoment, access, attach, detach, map, unmap, protect, flushAll, tag, loadAndMap, dropTag, Call, user, supervisor, supervise, step, next}
+use Rattle.promises.specs.Runs.{someMoment, access, attach, detach, map, unmap, protect, move, flushAll, tag, loadAndMap, dropTag, Call, user, supervisor, supervise, step, next}
 use Rattle.promises.specs.Demand3.{atSomeMoment, withoutOthers, SameFor, ApartEither}
 use Rattle.promises.proofs.Lengths.{fits-same}
 use Rattle.promises.proofs.Runs.{moment-again, moment-both}
@@ -31,6 +31,7 @@ slotsBy s fits slots (supervisor (detach process slot)) =
 slotsBy s fits slots (supervisor (map page frame write)) = slots
 slotsBy s fits slots (supervisor (unmap page)) = slots
 slotsBy s fits slots (supervisor (protect page write)) = slots
+slotsBy s fits slots (supervisor (move page new)) = slots
 slotsBy s fits slots (supervisor flushAll) = slots
 slotsBy s fits slots (supervisor (tag name)) = slots
 slotsBy s fits slots (supervisor (loadAndMap line)) = slots
@@ -46,7 +47,7 @@ module _ (s : Shape) (b : Board) where
   slots-kept rows d e = table-both (λ (o : Outcome) slots. o .after .slots ≡ b .slots) (refused b) (λ n. b .slots) (λ n. refl) rows d (b .slots) (λ p. e)
 
   slots-step : (k : Call) → step s b k .after .slots ≡ slotsBy s (fitsBoard s b) (b .slots) k
-  unfolding step slotsBy userAccess supervise supervisorAccess board.attach board.detach board.mapPage board.unmap board.protect board.flushAll board.tag board.loadAndMap board.dropTag
+  unfolding step slotsBy userAccess supervise supervisorAccess board.attach board.detach board.mapPage board.unmap board.protect board.movePage board.flushAll board.tag board.loadAndMap board.dropTag
   slots-step (user process a e) = slots-kept _ _ refl
   slots-step (supervisor (access a g)) = slots-kept _ _ refl
   slots-step (supervisor (attach process slot segment write)) = slots-table _ _
@@ -54,6 +55,7 @@ module _ (s : Shape) (b : Board) where
   slots-step (supervisor (map page frame write)) = slots-kept _ _ refl
   slots-step (supervisor (unmap page)) = slots-kept _ _ refl
   slots-step (supervisor (protect page write)) = slots-kept _ _ refl
+  slots-step (supervisor (move page new)) = slots-kept _ _ refl
   slots-step (supervisor flushAll) = slots-kept _ _ refl
   slots-step (supervisor (tag name)) = slots-kept _ _ refl
   slots-step (supervisor (loadAndMap line)) = slots-kept _ _ refl

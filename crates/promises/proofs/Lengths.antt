@@ -18,7 +18,7 @@ use Rattle.board.specs.declared.Found.the-variants.{At, Nothing}
 use Rattle.board.proofs.Bools.{cond-both}
 use Rattle.stores.specs.Stores.{Store, store, writtenBack, filled, noted, inserted, performedAt, Performed}
 use Rattle.lines.specs.Victims.{Uses, usedIn}
-use Rattle.visits.specs.Visits.{mapVisit, unmapVisit, protectVisit, flushVisit, visitedAll}
+use Rattle.visits.specs.Visits.{mapVisit, unmapVisit, protectVisit, moveVisit, flushVisit, visitedAll}
 use Rattle.stores.specs.declared.Access.{Access}
 use Rattle.lines.specs.declared.Line.{Line}
 use Rattle.visits.specs.declared.Visit.{Visit}
@@ -30,9 +30,9 @@ use Rattle.machine.specs.Boards.{Board, Outcome, refused, withSlots, withTag, w
 use Rattle.machine.specs.Refusals.{Row, byTable}
 use Rattle.machine.specs.Accesses.{Reached, accessedBy, usesBy, accessed, onBoard, performedOn, userAccess, memoryAccess, supervisorDone, supervisorAccess}
 use Rattle.machine.specs.Calls as board
-use Rattle.machine.specs.Calls.{zeroedStore, mapped, unmapped, protected, loaded, loadedBy, loadedUses, onLoaded}
+use Rattle.machine.specs.Calls.{zeroedStore, mapped, unmapped, protected, moved, loaded, loadedBy, loadedUses, onLoaded}
 use Rattle.machine.proofs.Tables.{table-cases}
-use Rattle.promises.specs.Runs.{Supervisor, access, attach, detach, map, unmap, protect, flushAll, tag, loadAndMap, dropTag, Call, user, supervisor, supervise, step}
+use Rattle.promises.specs.Runs.{Supervisor, access, attach, detach, map, unmap, protect, move, flushAll, tag, loadAndMap, dropTag, Call, user, supervisor, supervise, step}
 use Rattle.store_laws.proofs.Zeroed.{length-zeroed}
 use Rattle.store_laws.proofs.Steps.{written-records, written-cache, length-written}
 use Rattle.store_laws.proofs.Sweeps.{swept-cache}
@@ -166,7 +166,7 @@ module _ (s : Shape) (b : Board) where
   lengths-tag c t l = record { slots = l .slots; words = l .words; store = l .store; uses = l .uses }
 
   lengths-supervise : (c : Supervisor) → SameLengths b (supervise s b c .after)
-  unfolding supervise supervisorAccess board.attach board.detach board.mapPage board.unmap board.protect board.flushAll board.tag board.loadAndMap board.dropTag mapped unmapped protected
+  unfolding supervise supervisorAccess board.attach board.detach board.mapPage board.unmap board.protect board.movePage board.flushAll board.tag board.loadAndMap board.dropTag mapped unmapped protected moved
   lengths-supervise (access a g) = lengths-table _ _ (lengths-supervisor s b a g _)
   lengths-supervise (attach process slot segment write) = lengths-table _ _ (lengths-slots _ _)
   lengths-supervise (detach process slot) = lengths-table _ _ (lengths-slots _ _)
@@ -174,6 +174,7 @@ module _ (s : Shape) (b : Board) where
       lengths-table _ _ (lengths-words frame _ _ (sizes-zeroed s frame (b .store) _ (sizes-visited s (mapVisit page frame) (b .store))))
   lengths-supervise (unmap page) = lengths-table _ _ (lengths-words _ _ _ (sizes-visited s (unmapVisit page) (b .store)))
   lengths-supervise (protect page write) = lengths-table _ _ (lengths-words _ _ _ (sizes-visited s (protectVisit page write) (b .store)))
+  lengths-supervise (move page new) = lengths-table _ _ (lengths-words _ _ _ (sizes-visited s (moveVisit page new) (b .store)))
   lengths-supervise flushAll = lengths-table _ _ (lengths-use s b _ _ (sizes-visited s flushVisit (b .store)) refl)
   lengths-supervise (tag name) = lengths-table _ _ (lengths-tag b (tagged name) (lengths-refl b))
   lengths-supervise (loadAndMap line) = lengths-table _ _ (lengths-tag _ noTag (lengths-loaded s b _ line _))

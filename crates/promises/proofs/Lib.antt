@@ -10,6 +10,7 @@ pub mod Holding
 pub mod PagesOnce
 pub mod Valid
 pub mod Soundness
+pub mod Shown
 -- two plain machines
 pub mod Admitted
 pub mod Views
@@ -28,3 +29,4 @@ pub mod Limits
 pub mod Kept
 pub mod Values
 pub mod Marks
+pub mod Moves

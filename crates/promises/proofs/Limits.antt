@@ -22,7 +22,7 @@ use Rattle.machine.specs.Accesses.{userTable, supervisorTable}
 use Rattle.machine.specs.Looks.{lookNumber, lookTable}
 use Rattle.machine.specs.Rising.{rising, Rises}
 use Rattle.machine.proofs.Rising.{tables-rise}
-use Rattle.promises.specs.Runs.{Supervisor, access, attach, detach, map, unmap, protect, flushAll, tag, loadAndMap, dropTag, Call, user, supervisor}
+use Rattle.promises.specs.Runs.{Supervisor, access, attach, detach, map, unmap, protect, move, flushAll, tag, loadAndMap, dropTag, Call, user, supervisor}
 use Rattle.promises.specs.Demand1.{supervisorRows, rowsOf, appliesIn, Lowest}
 use Rattle.promises.specs.Limits.{Within, AsLong, NotBy1, By1, LimitsStand}
 use Rattle.promises.proofs.Demand1.{rising-from, demand1}
@@ -81,6 +81,7 @@ module _ (s : Shape) (b : Board) (fits : fitsBoard s b ≡ true) where
   supervisor-passed (map page frame write) = passed _ (tables-rise .map s b page frame)
   supervisor-passed (unmap page) = passed _ (tables-rise .page s b page)
   supervisor-passed (protect page write) = passed _ (tables-rise .page s b page)
+  supervisor-passed (move page new) = passed _ (tables-rise .move s b page new)
   supervisor-passed flushAll = passed _ (tables-rise .flush-all s b)
   supervisor-passed (tag name) = passed _ (tables-rise .tag s b name)
   supervisor-passed (loadAndMap line) = passed _ (tables-rise .load-and-map s b line)

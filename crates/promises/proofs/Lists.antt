@@ -187,11 +187,11 @@ lists-are-calls = record {
   runs-after = turns-after;
   runs-replies = turns-replies;
   runs-plain = λ s b f ts h. turns-replies b ts ∙ brought-demand2 s b f (callsOf b ts) h .same-replies;
-  runs-apart = λ s b f ts us process h p.
-      got process b ts ∙ brought-demand3 .apart s b f (callsOf b ts) (callsOf b us) process h p .same-replies ∙ sym (got process b us);
-  runs-bytes = λ s b f ts us process h p page frame line held at in-frame.
+  runs-apart = λ s b f ts us process h p v.
+      got process b ts ∙ brought-demand3 .apart s b f (callsOf b ts) (callsOf b us) process h p v .same-replies ∙ sym (got process b us);
+  runs-bytes = λ s b f ts us process h p v page frame line held at in-frame.
       ap (λ (c : Board). look s c line) (turns-after b ts)
-      ∙ brought-demand3 .apart s b f (callsOf b ts) (callsOf b us) process h p .same-bytes page frame line held (rw (turns-after b ts) at at) in-frame
+      ∙ brought-demand3 .apart s b f (callsOf b ts) (callsOf b us) process h p v .same-bytes page frame line held (rw (turns-after b ts) at at) in-frame
       ∙ sym (ap (λ (c : Board). look s c line) (turns-after b us));
   runs-one-copy = λ s b f ts h. rw (turns-after b ts) (brought-demand3 .one-copy s b f (callsOf b ts) h);
 }

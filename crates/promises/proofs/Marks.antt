@@ -41,7 +41,7 @@ use Rattle.machine.proofs.Rising.{tables-rise}
 use Rattle.machine.proofs.Alignments.{aligned-inside}
 use Rattle.machine.proofs.Prefixes.{region-cached, prefix-reached}
 use Rattle.store_laws.proofs.Held.{holder-some, holder-nothing}
-use Rattle.promises.specs.Runs.{access, attach, detach, map, unmap, protect, flushAll, tag, loadAndMap, dropTag, Call, user, supervisor, supervise, step}
+use Rattle.promises.specs.Runs.{access, attach, detach, map, unmap, protect, move, flushAll, tag, loadAndMap, dropTag, Call, user, supervisor, supervise, step}
 use Rattle.promises.specs.Demand2.{OnlyAt}
 use Rattle.promises.specs.Values.{Asker, asUser, asSupervisor, asks}
 use Rattle.promises.specs.Marks.{Holding, Refilled, WroteBack, goesTo, PastCache, Exactly, Tells, MarksTell}
@@ -314,7 +314,7 @@ accesses-tell s b (asSupervisor g) a = supervisor-tells s b g a
 
 -- every other call gives what its table refuses, or is done with mark 0
 others-zero : (s : Shape) (b : Board) (k : Call) → ((x : Asker) (a : Access) → asks x a ≡ k → ⊥) → step s b k .answer .mark ≡ 0
-unfolding asks step supervise calls.attach calls.detach calls.mapPage calls.unmap calls.protect calls.flushAll calls.tag calls.loadAndMap calls.dropTag
+unfolding asks step supervise calls.attach calls.detach calls.mapPage calls.unmap calls.protect calls.movePage calls.flushAll calls.tag calls.loadAndMap calls.dropTag
 others-zero s b (user n a e) h = absurd (h (asUser n e) a refl)
 others-zero s b (supervisor (access a g)) h = absurd (h (asSupervisor g) a refl)
 others-zero s b (supervisor (attach process slot segment write)) h = zero-mark b _ _ refl
@@ -322,6 +322,7 @@ others-zero s b (supervisor (detach process slot)) h = zero-mark b _ _ refl
 others-zero s b (supervisor (map page frame write)) h = zero-mark b _ _ refl
 others-zero s b (supervisor (unmap page)) h = zero-mark b _ _ refl
 others-zero s b (supervisor (protect page write)) h = zero-mark b _ _ refl
+others-zero s b (supervisor (move page new)) h = zero-mark b _ _ refl
 others-zero s b (supervisor flushAll) h = zero-mark b _ _ refl
 others-zero s b (supervisor (tag name)) h = zero-mark b _ _ refl
 others-zero s b (supervisor (loadAndMap line)) h = zero-mark b _ _ refl
@@ -366,7 +367,7 @@ module _ (s : Shape) (b : Board) (cache memory : List ℕ) (c : length cache ≡
   zero-marks rows d p others e q = zero-mark other rows d p ∙ sym (zero-mark b others e q)
 
   same-mark : (k : Call) → step s other k .answer .mark ≡ step s b k .answer .mark
-  unfolding step supervise userAccess userTable supervisorAccess supervisorTable calls.attach calls.detach calls.mapPage calls.unmap calls.protect calls.flushAll calls.tag calls.loadAndMap calls.dropTag
+  unfolding step supervise userAccess userTable supervisorAccess supervisorTable calls.attach calls.detach calls.mapPage calls.unmap calls.protect calls.movePage calls.flushAll calls.tag calls.loadAndMap calls.dropTag
   same-mark (user n a e) = rw (c, m) (by-rows _ _ _ (line-mark a (userGlobal (b .slots) n e)))
   same-mark (supervisor (access a g)) = rw (c, m) (by-rows _ _ _ (region-mark a g (regionOf g)))
   same-mark (supervisor (attach process slot segment write)) = zero-marks _ _ refl _ _ refl
@@ -374,6 +375,7 @@ module _ (s : Shape) (b : Board) (cache memory : List ℕ) (c : length cache ≡
   same-mark (supervisor (map page frame write)) = zero-marks _ _ refl _ _ refl
   same-mark (supervisor (unmap page)) = zero-marks _ _ refl _ _ refl
   same-mark (supervisor (protect page write)) = zero-marks _ _ refl _ _ refl
+  same-mark (supervisor (move page new)) = zero-marks _ _ refl _ _ refl
   same-mark (supervisor flushAll) = zero-marks _ _ refl _ _ refl
   same-mark (supervisor (tag name)) = zero-marks _ _ refl _ _ refl
   same-mark (supervisor (loadAndMap line)) = zero-marks _ _ refl _ _ refl

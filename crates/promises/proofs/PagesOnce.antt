@@ -9,7 +9,7 @@ use lib.Seq.{getD-set-same, getD-set-other}
 use lib.Dec.{eqb}
 use borrow.Author.Tests.{eqb-true, eqb-false}
 use Rattle.address.specs.Addresses.{ordinaryPage}
-use Rattle.pages.specs.Pages.{frameWord, namesPage, mappedTo}
+use Rattle.pages.specs.Pages.{frameWord, namesPage, wordWrites, mappedTo}
 use Rattle.board.specs.declared.Shape.{Shape}
 use Rattle.board.specs.declared.Found.the-variants.{At, Nothing}
 use Rattle.board.proofs.Bools.{clash}
@@ -17,9 +17,9 @@ use Rattle.machine.specs.Boards.{Board, Outcome, refused, fitsBoard}
 use Rattle.machine.specs.Refusals.{Row, byTable}
 use Rattle.machine.specs.Accesses.{userAccess, supervisorAccess}
 use Rattle.machine.specs.Calls as board
-use Rattle.machine.specs.Calls.{foundFrame, mapped, unmapped, protected}
+use Rattle.machine.specs.Calls.{foundFrame, mapped, unmapped, protected, moved}
 use Rattle.machine.proofs.Tables.{Passed, table-cases}
-use Rattle.promises.specs.Runs.{Supervisor, access, attach, detach, map, unmap, protect, flushAll, tag, loadAndMap, dropTag, Call, user, supervisor, supervise, step}
+use Rattle.promises.specs.Runs.{Supervisor, access, attach, detach, map, unmap, protect, move, flushAll, tag, loadAndMap, dropTag, Call, user, supervisor, supervise, step}
 use Rattle.promises.specs.Sound.{PagesOnce}
 use Rattle.page_laws.proofs.Maps.{names-word, frame-word-page, mapped-frame, mapped-nothing, found-at, found-nothing}
 use Rattle.promises.proofs.Shapes.{board-shaped}
@@ -52,6 +52,7 @@ module _ (s : Shape) (words : List ℕ) (size : length words ≡ s .frames) (onc
     same-page : (other : ℕ) → namesPage (frameWord page write) other ≡ true → other ≡ page
     same-page other e = sym (names-word (frameWord page write) other e .0) ∙ frame-word-page page write
 
+    -- the word of a page that has no frame yet: map and move
     once-mapped : (frame : ℕ) → mappedTo s words page ≡ Nothing → PagesOnce s (set words frame (frameWord page write))
     once-mapped frame e =
         once-set frame (frameWord page write)
@@ -80,7 +81,7 @@ module _ (s : Shape) (b : Board) (fits : fitsBoard s b ≡ true) (once : PagesOn
   once-table rows d p = table-cases (λ (o : Outcome). PagesOnce s (o .after .words)) (refused b) (λ n. once) rows d p
 
   once-supervise : (c : Supervisor) → PagesOnce s (supervise s b c .after .words)
-  unfolding supervise supervisorAccess board.attach board.detach board.mapPage board.unmap board.protect board.flushAll board.tag board.loadAndMap board.dropTag mapped unmapped protected
+  unfolding supervise supervisorAccess board.attach board.detach board.mapPage board.unmap board.protect board.movePage board.flushAll board.tag board.loadAndMap board.dropTag mapped unmapped protected moved
   once-supervise (access a g) = once-table _ _ (λ q. once)
   once-supervise (attach process slot segment write) = once-table _ _ (λ q. once)
   once-supervise (detach process slot) = once-table _ _ (λ q. once)
@@ -91,6 +92,10 @@ module _ (s : Shape) (b : Board) (fits : fitsBoard s b ≡ true) (once : PagesOn
       once-table _ _
       (λ q. once-protected s (b .words) size once page write (foundFrame (mappedTo s (b .words) page))
       (found-at (mappedTo s (b .words) page) (q 2)))
+  once-supervise (move page new) =
+      once-table _ _
+      (λ q. once-mapped s (b .words) size once new (wordWrites (getD (b .words) (foundFrame (mappedTo s (b .words) page)) 0)) (foundFrame (mappedTo s (b .words) page))
+      (found-nothing (mappedTo s (b .words) new) (q 3)))
   once-supervise flushAll = once-table _ _ (λ q. once)
   once-supervise (tag name) = once-table _ _ (λ q. once)
   once-supervise (loadAndMap line) = once-table _ _ (λ q. once)

@@ -4,11 +4,11 @@ use Prim.Native.Nat.{ℕ}
 use mathlib.Core.Path.{_≡_, refl}
 use mathlib.Core.Bool.{Bool, true}
 use mathlib.Core.List.{List}
-use lib.ListN.{set}
+use lib.ListN.{getD, set}
 use lib.Dec.{leb, ltb}
 use borrow.Author.Tests.{not-false, ltb-true, eqb-true}
 use Rattle.address.specs.Addresses.{ordinaryPage}
-use Rattle.pages.specs.Pages.{frameWord, mappedTo, homeOf}
+use Rattle.pages.specs.Pages.{frameWord, wordWrites, mappedTo, homeOf}
 use Rattle.board.specs.Answers.{answer}
 use Rattle.board.specs.declared.Shape.{Shape}
 use Rattle.board.specs.declared.Home.the-variants.{Line}
@@ -19,12 +19,12 @@ use Rattle.lines.proofs.Sets.{victim-set, victim-inside}
 use Rattle.visits.specs.Visits.{flushVisit, visitedAll}
 use Rattle.machine.specs.Boards.{Board, fitsBoard, done, noTag, withTag, withStore, withPages, pagesOf}
 use Rattle.machine.specs.Refusals.{isFrame}
-use Rattle.machine.specs.Calls.{foundFrame, attach, attachTable, detach, detachTable, mapPage, mapTable, mapped, unmap, pageTable, unmapped, protect, protected, flushAll, flushTable, tag, tagTable, loadAndMap, loadAndMapTable, loaded, onLoaded, nameFrame, nameLine, nameWrites, dropTag, dropTagTable}
-use Rattle.promises.specs.Plain.{plainDone, plainTag, plainWords, plainAttach, plainDetach, plainMap, plainUnmap, plainProtect, plainFlush, plainTagging, plainLoadAndMap, plainDropTag}
+use Rattle.machine.specs.Calls.{foundFrame, attach, attachTable, detach, detachTable, mapPage, mapTable, mapped, unmap, pageTable, unmapped, protect, protected, movePage, moveTable, moved, flushAll, flushTable, tag, tagTable, loadAndMap, loadAndMapTable, loaded, onLoaded, nameFrame, nameLine, nameWrites, dropTag, dropTagTable}
+use Rattle.promises.specs.Plain.{plainDone, plainTag, plainWords, plainAttach, plainDetach, plainMap, plainUnmap, plainProtect, plainMove, plainFlush, plainTagging, plainLoadAndMap, plainDropTag}
 use Rattle.promises.specs.Runs.{plainOf}
 use Rattle.store_laws.proofs.Sim.{Sim}
 use Rattle.page_laws.proofs.Maps.{found-at, found-nothing, mapped-home}
-use Rattle.page_laws.proofs.Remap.{sim-cleared, sim-unmapped, sim-protected, sim-flushed}
+use Rattle.page_laws.proofs.Remap.{sim-cleared, sim-unmapped, sim-moved, sim-protected, sim-flushed}
 use Rattle.page_laws.proofs.Reaching.{loaded-same}
 use Rattle.promises.proofs.Shapes.{BoardShaped, board-shaped}
 use Rattle.promises.proofs.Lengths.{lengths-loaded}
@@ -78,6 +78,15 @@ module _ (s : Shape) (b : Board) (m : List ℕ) (fits : fitsBoard s b ≡ true) 
       (plainDone (plainWords (plainOf b m) (set (b .words) (foundFrame (mappedTo s (b .words) page)) (frameWord page write)) m))
       (λ k. related-done s b m x (answer 0 0 0) (withPages b (protected s page (foundFrame (mappedTo s (b .words) page)) write (pagesOf b))) m refl
       (sim-protected s (b .words) (b .store) m x page _ write (found-at _ (k 2)))))
+
+  pub related-move : (page new : ℕ) → Related s (movePage s b page new) (plainMove s (plainOf b m) page new)
+  unfolding movePage plainMove moved
+  related-move page new =
+      rw (lengths-same s b m x)
+      (related-table s b m x (moveTable s b page new) (done (withPages b (moved s page new (foundFrame (mappedTo s (b .words) page)) (pagesOf b))))
+      (plainDone (plainWords (plainOf b m) (set (b .words) (foundFrame (mappedTo s (b .words) page)) _) m))
+      (λ k. related-done s b m x (answer 0 0 0) (withPages b (moved s page new (foundFrame (mappedTo s (b .words) page)) (pagesOf b))) m refl
+      (sim-moved s (b .words) (b .store) m x page _ (found-at _ (k 2)) new (wordWrites (getD (b .words) (foundFrame (mappedTo s (b .words) page)) 0)))))
 
   pub related-flush : Related s (flushAll s b) (plainFlush s (plainOf b m))
   unfolding flushAll plainFlush

@@ -24,14 +24,14 @@ use Rattle.stores.specs.declared.Access.{Access}
 use Rattle.reach.specs.declared.Way.{Way}
 use Rattle.reach.specs.declared.Way.the-variants.{Held, InMemory, Missing}
 use Rattle.reach.proofs.Reach.{way-inside}
-use Rattle.visits.specs.Visits.{mapVisit, unmapVisit, protectVisit, flushVisit}
+use Rattle.visits.specs.Visits.{mapVisit, unmapVisit, protectVisit, moveVisit, flushVisit}
 use Rattle.machine.specs.Boards.{Board, Outcome, fitsBoard, refused}
 use Rattle.machine.specs.Refusals.{Row, byTable}
 use Rattle.machine.specs.Accesses.{Reached, performedOn, accessedBy, accessed, wayTo, victimFor, userTable, userAccess, memoryAccess, supervisorTable, supervisorDone, supervisorAccess}
 use Rattle.machine.specs.Calls as board
-use Rattle.machine.specs.Calls.{mapped, unmapped, protected, loadedBy, loaded}
+use Rattle.machine.specs.Calls.{mapped, unmapped, protected, moved, loadedBy, loaded}
 use Rattle.machine.proofs.Tables.{Passed, table-cases}
-use Rattle.promises.specs.Runs.{Supervisor, access, attach, detach, map, unmap, protect, flushAll, tag, loadAndMap, dropTag, Call, user, supervisor, supervise, step, next}
+use Rattle.promises.specs.Runs.{Supervisor, access, attach, detach, map, unmap, protect, move, flushAll, tag, loadAndMap, dropTag, Call, user, supervisor, supervise, step, next}
 use Rattle.promises.specs.Sound.{ValidHolds}
 use Rattle.promises.specs.Demand3.{ValidHoldsStays}
 use Rattle.store_laws.proofs.Valid.{valid-inserted, valid-performed, valid-visited}
@@ -96,13 +96,14 @@ module _ (s : Shape) (b : Board) (all : ValidHolds s (b .store)) where
       go Nothing = valid-inserted s to name line write (b .store) (victim-set s (b .uses) (b .store .records) name w) inside all
 
   valid-supervise : (c : Supervisor) → ValidHolds s (supervise s b c .after .store)
-  unfolding supervise supervisorAccess supervisorTable board.attach board.detach board.mapPage board.unmap board.protect board.flushAll board.tag board.loadAndMap board.dropTag mapped unmapped protected
+  unfolding supervise supervisorAccess supervisorTable board.attach board.detach board.mapPage board.unmap board.protect board.movePage board.flushAll board.tag board.loadAndMap board.dropTag mapped unmapped protected moved
   valid-supervise (access a g) = valid-table _ _ (λ q. valid-supervisor s a (b .words) (size (q 0)) (ways (q 0)) (b .store) (b .uses) all g _)
   valid-supervise (attach process slot segment write) = valid-table _ _ (λ q. all)
   valid-supervise (detach process slot) = valid-table _ _ (λ q. all)
   valid-supervise (map page frame write) = valid-table _ _ (λ q. valid-visited s (mapVisit page frame) (b .store) all)
   valid-supervise (unmap page) = valid-table _ _ (λ q. valid-visited s (unmapVisit page) (b .store) all)
   valid-supervise (protect page write) = valid-table _ _ (λ q. valid-visited s (protectVisit page write) (b .store) all)
+  valid-supervise (move page new) = valid-table _ _ (λ q. valid-visited s (moveVisit page new) (b .store) all)
   valid-supervise flushAll = valid-table _ _ (λ q. valid-visited s flushVisit (b .store) all)
   valid-supervise (tag name) = valid-table _ _ (λ q. all)
   valid-supervise (loadAndMap line) = valid-table _ _ (λ q. valid-loaded _ line _ (ways (q 0)) (ltb-true _ _ (not-false _ (q 1))))

@@ -1,14 +1,14 @@
 -- Two plain machines that differ in memory only, and agree on the pages of some segments: what each call keeps of that.
 -- Stands on Bytes, Zeroed, Maps, Admitted and the table laws of `machine`.
-use Prim.Native.Nat.{ℕ, _+_, _*_, _/_, _≤_, _<_}
+use Prim.Native.Nat.{ℕ, _+_, _*_, _/_, _%_, _≤_, _<_}
 use mathlib.Core.Path.{_≡_, refl, sym, ap, _∙_}
-use mathlib.Core.Bool.{Bool, true, false, not, cond}
+use mathlib.Core.Bool.{Bool, true, false, not, _&&_, cond}
 use mathlib.Core.List.{List, [], _∷_}
 use native.Mathlib.Omega.{arith}
 use lib.Dec.{eqb, leb, ltb}
 use lib.ListN.{length, getD, set}
 use lib.Seq.{getD-set-same, getD-set-other}
-use borrow.Author.Tests.{eqb-true, eqb-false, ltb-true, not-false}
+use borrow.Author.Tests.{eqb-true, eqb-false, ltb-true, lt-ltb, not-false}
 use Rattle.address.specs.Layout.{pageLines}
 use Rattle.address.specs.Addresses.{pageOf, regionOf, ordinaryPage}
 use Rattle.address.specs.declared.Effective.{Effective}
@@ -17,21 +17,21 @@ use Rattle.address.specs.declared.Physical.{Physical}
 use Rattle.address.specs.declared.Region.{Region}
 use Rattle.address.specs.declared.Region.the-variants.{Uncached, Cached, PageTable, Ordinary}
 use Rattle.slots.specs.Slots.{slotSegment}
-use Rattle.pages.specs.Pages.{namesPage, frameWord, mappedTo}
+use Rattle.pages.specs.Pages.{namesPage, frameWord, wordWrites, mappedTo}
 use Rattle.board.specs.declared.Shape.{Shape}
 use Rattle.board.specs.declared.Found.the-variants.{At}
 use Rattle.board.proofs.Bools.{clash, and-right}
-use Rattle.line_bytes.specs.Bytes.{number, digits, stored, zeroedFrame}
+use Rattle.line_bytes.specs.Bytes.{number, digits, stored, lineOf, zeroedFrame}
 use Rattle.stores.specs.declared.Access.{Access}
 use Rattle.line_bytes.proofs.Bytes.{length-stored}
-use Rattle.machine.specs.Refusals.{Row, byTable, isFrame, isMapped}
+use Rattle.machine.specs.Refusals.{Row, row, byTable, isFrame, isPhysicalLine, isMapped}
 use Rattle.machine.specs.Accesses.{slotWordAt, userGlobal}
-use Rattle.machine.specs.Calls.{foundFrame}
-use Rattle.machine.proofs.Tables.{Passed, table-both, table-cases}
-use Rattle.promises.specs.Plain.{Plain, Given, given, plainRefused, plainRow1, withMemory, plainWords, plainAccess, addressFrame, addressAt, plainUser, supervisorAt, plainSupervisor, plainAttach, plainDetach, plainMap, plainUnmap, plainProtect, plainFlush, plainTagging, plainLoadAndMap, plainDropTag, plainLook}
-use Rattle.promises.specs.Runs.{Supervisor, access, attach, detach, map, unmap, protect, flushAll, tag, loadAndMap, dropTag, Call, user, supervisor, plainReply, plainSupervise, plainStep}
-use Rattle.promises.specs.Demand3.{holds, holdsForWriting, segmentOfPage}
-use Rattle.store_laws.proofs.Bytes.{splice-match, number-same, stored-out, line-same}
+use Rattle.machine.specs.Calls.{foundFrame, moveRows}
+use Rattle.machine.proofs.Tables.{Passed, passed-more, table-done, table-both, table-cases}
+use Rattle.promises.specs.Plain.{Plain, Given, given, plainRefused, plainRow1, withMemory, plainWords, plainAccess, addressFrame, addressAt, plainUser, supervisorAt, plainSupervisor, plainAttach, plainDetach, plainMap, plainUnmap, plainProtect, plainMove, plainFlush, plainTagging, plainLoadAndMap, plainDropTag, plainLookTable, plainLook}
+use Rattle.promises.specs.Runs.{Supervisor, access, attach, detach, map, unmap, protect, move, flushAll, tag, loadAndMap, dropTag, user, supervisor, plainReply, plainSupervise, plainStep}
+use Rattle.promises.specs.Demand3.{holds, holdsForWriting, segmentOfPage, Moves, moves, nothing, movesOf}
+use Rattle.store_laws.proofs.Bytes.{splice-match, number-same, stored-out, line-same, line-at}
 use Rattle.store_laws.proofs.Zeroed.{length-zeroed, zeroed-in, zeroed-out}
 use Rattle.page_laws.proofs.Maps.{names-word, frame-word-page, Mapped, mapped-frame, found-at}
 use Rattle.promises.proofs.Shapes.{PlainShaped, plain-shaped}
@@ -52,6 +52,23 @@ pub record AlikeIn (S : ℕ → Bool) (s : Shape) (p q : Plain) : Type 0 where
 
 view-same : (S : ℕ → Bool) (s : Shape) (words m : List ℕ) → View S s words m m
 view-same S s words m = record { same-length = refl; agree = λ x page a b c d e. refl }
+
+-- ---- pages that are moved in
+
+-- the plain machine's look, where it gives a line
+look-done : (s : Shape) (p : Plain) (line : ℕ) → plainRow1 s p .applies ≡ false → line < pageLines * s .frames → plainLook s p line ≡ lineOf (p .memory) line
+unfolding plainLook
+look-done s p line f b =
+    let l = lt-ltb line (pageLines * s .frames) b in
+    table-done (λ n. []) (plainLookTable s p line) (lineOf (p .memory) line)
+    (passed-more (plainRow1 s p) (row 2 (not (isPhysicalLine s line)) ∷ []) f (passed-more (row 2 (not (isPhysicalLine s line))) [] (rw l) (λ i. refl)))
+
+-- what `handedBy` is on the plain machine
+unfoldable pub plainHanded : (ℕ → Bool) → ℕ → Shape → Plain → Supervisor → Moves → List ℕ
+plainHanded S i s p c (moves page new) =
+    cond (eqb (plainSupervise s p c .number) 0 && (S (segmentOfPage new) && not (S (segmentOfPage page))))
+    (plainLook s p (foundFrame (mappedTo s (p .words) page) * pageLines + i)) []
+plainHanded S i s p c nothing = []
 
 -- ---- each call, carried out on both
 
@@ -160,24 +177,61 @@ module _ (S : ℕ → Bool) (s : Shape) (p : Plain) (n : List ℕ) (v : View S s
       v .agree x page g i (m .ordinary) (rw e (m .names)) (rw z k))
       (λ x e g. g))
 
-  view-supervise : (c : Supervisor) → AlikeIn S s (plainSupervise s p c .after) (plainSupervise s q c .after)
-  unfolding plainSupervise plainSupervisor plainAttach plainDetach plainFlush plainTagging plainLoadAndMap plainDropTag
-  view-supervise (access a g) =
-      view-table _ _ _ (λ h. rw (← at-same s p n g (regionOf g)) (view-access (plain-shaped s p (h 0)) (supervisorAt s p g (regionOf g)) a))
-  view-supervise (attach process slot segment write) = view-table _ _ _ (λ h. record { same-rest = refl; view = v })
-  view-supervise (detach process slot) = view-table _ _ _ (λ h. record { same-rest = refl; view = v })
-  view-supervise (map page frame write) = view-map page frame write
-  view-supervise (unmap page) = view-unmap page
-  view-supervise (protect page write) = view-protect page write
-  view-supervise flushAll = view-table _ _ _ (λ h. view-now)
-  view-supervise (tag name) = view-table _ _ _ (λ h. record { same-rest = refl; view = v })
-  view-supervise (loadAndMap line) = view-table _ _ _ (λ h. record { same-rest = refl; view = v })
-  view-supervise dropTag = view-table _ _ _ (λ h. record { same-rest = refl; view = v })
+  module _ (page new : ℕ) (same : (i : ℕ) → i < pageLines → plainHanded S i s p (move page new) (moves page new) ≡ plainHanded S i s q (move page new) (moves page new))
+      (h : Passed (plainRow1 s p ∷ moveRows s (p .words) page new)) where
+    move-zero : plainSupervise s p (move page new) .number ≡ 0
+    unfolding plainSupervise plainMove
+    move-zero = ap (λ (x : Given). x .number) (table-done (plainRefused p) (plainRow1 s p ∷ moveRows s (p .words) page new) _ h)
 
-  view-step : (k : Call) → AlikeIn S s (plainStep s p k .after) (plainStep s q k .after)
-  unfolding plainStep
-  view-step (user process a e) = view-user process a e
-  view-step (supervisor c) = view-supervise c
+    move-zero-too : plainSupervise s q (move page new) .number ≡ 0
+    unfolding plainSupervise plainMove
+    move-zero-too = sym (view-tables (λ (x y : Given). x .number ≡ y .number) (plainRefused p) (plainRefused q) (λ k. refl) _ _ _ (λ _. refl)) ∙ move-zero
+
+    -- a page that comes from elsewhere shows the same in both
+    handed-shown : S (segmentOfPage new) ≡ true → S (segmentOfPage page) ≡ false → (i : ℕ) → i < pageLines
+        → plainLook s p (found page * pageLines + i) ≡ plainLook s q (found page * pageLines + i)
+    unfolding plainHanded
+    handed-shown a b i l = let y = move-zero in let z = move-zero-too in rw (y, z, a, b) at (same i l)
+
+    moved-byte : (x : ℕ) → x / 4096 ≡ found page → s .uncached ≤ x / 4096 → x / 4096 < s .frames → S (segmentOfPage new) ≡ true
+        → (t : Bool) → S (segmentOfPage page) ≡ t → getD (p .memory) x 0 ≡ getD n x 0
+    moved-byte x e g i k true t = let m = page-found page (h 2) in v .agree x page g i (m .ordinary) (rw e (m .names)) t
+    moved-byte x e g i k false t =
+        let l = found page * pageLines + x / 16 % pageLines in
+        let b : l < pageLines * s .frames = omega arith in
+        let z : 16 * l + x % 16 ≡ x = omega arith in
+        let f : plainRow1 s q .applies ≡ false = rw (← v .same-length) (h 0) in
+        let r = sym (look-done s p l (h 0) b) ∙ handed-shown k t (x / 16 % pageLines) (omega arith) ∙ look-done s q l f b in
+        rw z at (line-at (p .memory) n l l (x % 16) r (omega arith))
+
+  -- a page that is moved: its bytes are the same in both, because it is of a segment of S, or because the premise says so
+  view-move : (page new : ℕ) → ((i : ℕ) → i < pageLines → plainHanded S i s p (move page new) (moves page new) ≡ plainHanded S i s q (move page new) (moves page new))
+      → AlikeIn S s (plainMove s p page new .after) (plainMove s q page new .after)
+  unfolding plainMove
+  view-move page new same = view-table _ _ _ (λ h.
+      let m = page-found page (h 2) in
+      let write = wordWrites (getD (p .words) (found page) 0) in
+      view-reworded (found page) (frameWord new write) (p .memory) n (m .inside) (v .same-length)
+      (λ x page′ e g i o d k.
+      let z : new ≡ page′ = sym (frame-word-page new write) ∙ names-word (frameWord new write) page′ d .0 in
+      moved-byte page new same h x e g i (rw z k) (S (segmentOfPage page)) refl)
+      (λ x e g. g))
+
+  view-supervise : (c : Supervisor) → ((i : ℕ) → i < pageLines → plainHanded S i s p c (movesOf c) ≡ plainHanded S i s q c (movesOf c))
+      → AlikeIn S s (plainSupervise s p c .after) (plainSupervise s q c .after)
+  unfolding plainSupervise movesOf plainSupervisor plainAttach plainDetach plainFlush plainTagging plainLoadAndMap plainDropTag
+  view-supervise (access a g) same =
+      view-table _ _ _ (λ h. rw (← at-same s p n g (regionOf g)) (view-access (plain-shaped s p (h 0)) (supervisorAt s p g (regionOf g)) a))
+  view-supervise (attach process slot segment write) same = view-table _ _ _ (λ h. record { same-rest = refl; view = v })
+  view-supervise (detach process slot) same = view-table _ _ _ (λ h. record { same-rest = refl; view = v })
+  view-supervise (map page frame write) same = view-map page frame write
+  view-supervise (unmap page) same = view-unmap page
+  view-supervise (protect page write) same = view-protect page write
+  view-supervise (move page new) same = view-move page new same
+  view-supervise flushAll same = view-table _ _ _ (λ h. view-now)
+  view-supervise (tag name) same = view-table _ _ _ (λ h. record { same-rest = refl; view = v })
+  view-supervise (loadAndMap line) same = view-table _ _ _ (λ h. record { same-rest = refl; view = v })
+  view-supervise dropTag same = view-table _ _ _ (λ h. record { same-rest = refl; view = v })
 
   -- ---- an access of another process, carried out on one
 
@@ -268,8 +322,14 @@ module _ (S : ℕ → Bool) (s : Shape) (p : Plain) (n : List ℕ) (v : View S s
 -- ---- the same of any two machines that are alike
 
 module _ (S : ℕ → Bool) (s : Shape) (p q : Plain) (h : AlikeIn S s p q) where
-  pub alike-step : (k : Call) → AlikeIn S s (plainStep s p k .after) (plainStep s q k .after)
-  alike-step k = rw (h .same-rest) (view-step S s p (q .memory) (h .view) k)
+  pub alike-user : (process : ℕ) (a : Access) (e : Effective) → AlikeIn S s (plainStep s p (user process a e) .after) (plainStep s q (user process a e) .after)
+  unfolding plainStep
+  alike-user process a e = rw (h .same-rest) (view-user S s p (q .memory) (h .view) process a e)
+
+  pub alike-supervise : (c : Supervisor) → ((i : ℕ) → i < pageLines → plainHanded S i s p c (movesOf c) ≡ plainHanded S i s q c (movesOf c))
+      → AlikeIn S s (plainStep s p (supervisor c) .after) (plainStep s q (supervisor c) .after)
+  unfolding plainStep
+  alike-supervise c same = rw (h .same-rest) (view-supervise S s p (q .memory) (h .view) c (λ i l. rw (h .same-rest) at (same i l)))
 
   pub alike-aside : (other : ℕ) (a : Access) (e : Effective)
       → ((segment : ℕ) → other < s .processes → holdsForWriting (p .slots) other segment ≡ true → S segment ≡ false)
@@ -288,6 +348,16 @@ module _ (S : ℕ → Bool) (s : Shape) (p q : Plain) (h : AlikeIn S s p q) wher
 
   pub alike-words : p .words ≡ q .words
   alike-words = sym (ap (λ (x : Plain). x .words) (h .same-rest))
+
+-- the other way round
+pub alike-other : (S : ℕ → Bool) (s : Shape) (p q : Plain) → AlikeIn S s p q → AlikeIn S s q p
+alike-other S s p q h = rw (h .same-rest) (go (h .view))
+  where
+    go : View S s (p .words) (p .memory) (q .memory) → AlikeIn S s (withMemory p (q .memory)) p
+    go v = record {
+      same-rest = refl;
+      view = record { same-length = sym (v .same-length); agree = λ x page a b c d e. sym (v .agree x page a b c d e) };
+    }
 
 pub alike-same : (S : ℕ → Bool) (s : Shape) (p : Plain) → AlikeIn S s p p
 alike-same S s p = record { same-rest = refl; view = view-same S s (p .words) (p .memory) }

@@ -4,7 +4,7 @@
 -- (The board has its matrices here, so they pin the edition too. The functions of 01's edition for C and Rust are lent none and can't notice a board of
 -- the other: a caller keeps to one edition's functions.)
 use Prim.{Unit}
-use Prim.Native.Nat.{ℕ, _/_}
+use Prim.Native.Nat.{ℕ, _/_, _<_}
 use mathlib.Core.Path.{_≡_}
 use mathlib.Core.Bool.{Bool, true, false, cond}
 use mathlib.Core.List.{List, [], _∷_}
@@ -18,7 +18,7 @@ use Rattle.machine.specs.Looks.{lookNumber, look}
 use Rattle.promises.specs.Plain.{Plain, plainLook, plainLookNumber}
 use Rattle.promises.specs.Runs.{ran, gained, someMoment, Call, user, supervisor, Reply, reply, step, next, after, replies, plainReply, plainStep, plainNext, plainOf}
 use Rattle.promises.specs.Sound.{Sound, Shows, LinesOnce, ValidHolds, ValidOnce}
-use Rattle.promises.specs.Demand3.{holds, ApartIn, segmentOfPage}
+use Rattle.promises.specs.Demand3.{holds, ApartIn, segmentOfPage, handedLine, noMove}
 
 -- ---- what the buffers pin
 
@@ -130,6 +130,24 @@ broughtWithoutOthers process (bring t (user q a e) ∷ ks) =
     cond (eqb q process) (bring t (user q a e) ∷ broughtWithoutOthers process ks) (broughtWithoutOthers process ks)
 broughtWithoutOthers process (bring t (supervisor c) ∷ ks) = bring t (supervisor c) ∷ broughtWithoutOthers process ks
 
+-- line i of each page that is moved into a segment of S from elsewhere, at the moment before the move: an entry for each of the supervisor's calls, as in
+-- `handedLines`
+unfoldable pub broughtHandedLines : (ℕ → Bool) → ℕ → Board → List Brought → List (List ℕ)
+broughtHandedLines S i b [] = []
+broughtHandedLines S i b (bring t (user q a e) ∷ ks) = broughtHandedLines S i (step t b (user q a e) .after) ks
+broughtHandedLines S i b (bring t (supervisor c) ∷ ks) = handedLine S i t b c ∷ broughtHandedLines S i (step t b (supervisor c) .after) ks
+
+abbrev pub BroughtMovesAlike : Board → List Brought → List Brought → ℕ → Type 0
+BroughtMovesAlike b ks ls process =
+    (i : ℕ) → i < pageLines
+    → broughtHandedLines (λ segment. broughtAtSomeMoment (λ slots. holds slots process segment) b ks) i b ks
+    ≡ broughtHandedLines (λ segment. broughtAtSomeMoment (λ slots. holds slots process segment) b ks) i b ls
+
+-- the calls without their numbers
+unfoldable pub broughtCalls : List Brought → List Call
+broughtCalls [] = []
+broughtCalls (bring t k ∷ ks) = k ∷ broughtCalls ks
+
 -- what our process gets
 unfoldable pub broughtRepliesTo : ℕ → Board → List Brought → List Reply
 broughtRepliesTo process b [] = []
@@ -163,10 +181,15 @@ pub record TwoRuns (s : Shape) (b : Board) (ks ls : List Brought) (process : ℕ
 
 pub record BroughtDemand3 : Type 0 where
   pub apart : (s : Shape) (b : Board) → Fresh b → (ks ls : List Brought) (process : ℕ)
-      → TwoRuns s b ks ls process → BroughtApart s b ks process → BroughtSameForProcess s b ks ls process
-  -- the premise may be read off either run, of any board at all
+      → TwoRuns s b ks ls process → BroughtApart s b ks process → BroughtMovesAlike b ks ls process → BroughtSameForProcess s b ks ls process
+  -- without moves the premise on moves asks nothing, of any board at all
+  pub without-moves : (s : Shape) (b : Board) (ks ls : List Brought) (process : ℕ)
+      → TwoRuns s b ks ls process → noMove (broughtCalls ks) ≡ true → BroughtMovesAlike b ks ls process
+  -- both premises may be read off either run, of any board at all
   pub apart-either : (s : Shape) (b : Board) (ks ls : List Brought) (process : ℕ)
       → TwoRuns s b ks ls process → BroughtApart s b ks process → BroughtApart s b ls process
+  pub moves-either : (s : Shape) (b : Board) (ks ls : List Brought) (process : ℕ)
+      → TwoRuns s b ks ls process → BroughtMovesAlike b ks ls process → BroughtMovesAlike b ls ks process
   pub one-copy : (s : Shape) (b : Board) → Fresh b → (ks : List Brought) → EachBrings s b ks → LinesOnce s (broughtAfter b ks .store)
   pub every-valid-holds : (s : Shape) (b : Board) → Fresh b → (ks : List Brought) → EachBrings s b ks → ValidHolds s (broughtAfter b ks .store)
   pub one-copy-valid : (s : Shape) (b : Board) → Fresh b → (ks : List Brought) → EachBrings s b ks → ValidOnce (broughtAfter b ks .store)

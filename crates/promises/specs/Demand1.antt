@@ -13,9 +13,9 @@ use Rattle.machine.specs.Boards.{Board, refused}
 use Rattle.machine.specs.Refusals.{Row, entryTable}
 use Rattle.machine.specs.Accesses.{userTable, supervisorTable}
 use Rattle.machine.specs.Lists.{listTable, listRefused, userAccesses}
-use Rattle.machine.specs.Calls.{attachTable, detachTable, mapTable, pageTable, flushTable, tagTable, loadAndMapTable, dropTagTable}
+use Rattle.machine.specs.Calls.{attachTable, detachTable, mapTable, pageTable, moveTable, flushTable, tagTable, loadAndMapTable, dropTagTable}
 use Rattle.machine.specs.Looks.{lookTable, lookNumber, look}
-use Rattle.promises.specs.Runs.{Supervisor, access, attach, detach, map, unmap, protect, flushAll, tag, loadAndMap, dropTag, Call, user, supervisor, step}
+use Rattle.promises.specs.Runs.{Supervisor, access, attach, detach, map, unmap, protect, move, flushAll, tag, loadAndMap, dropTag, Call, user, supervisor, step}
 
 -- the table of a call
 unfoldable pub supervisorRows : Shape → Board → Supervisor → List Row
@@ -25,6 +25,7 @@ supervisorRows s b (detach process slot) = detachTable s b process slot
 supervisorRows s b (map page frame write) = mapTable s b page frame
 supervisorRows s b (unmap page) = pageTable s b page
 supervisorRows s b (protect page write) = pageTable s b page
+supervisorRows s b (move page new) = moveTable s b page new
 supervisorRows s b flushAll = flushTable s b
 supervisorRows s b (tag name) = tagTable s b name
 supervisorRows s b (loadAndMap line) = loadAndMapTable s b line

@@ -1,5 +1,5 @@
--- Demand 3. What one process gets does not depend on the accesses of the others.
-use Prim.Native.Nat.{ℕ, zero, suc, _/_, _<_}
+-- Demand 3. What one process gets does not depend on the accesses of the others. With moves (CR 9) that needs one premise more.
+use Prim.Native.Nat.{ℕ, zero, suc, _+_, _*_, _/_, _<_}
 use mathlib.Core.Path.{_≡_}
 use mathlib.Core.Bool.{Bool, true, false, not, _&&_, _||_, cond}
 use mathlib.Core.List.{List, [], _∷_}
@@ -11,8 +11,9 @@ use Rattle.pages.specs.Pages.{mappedTo}
 use Rattle.board.specs.declared.Shape.{Shape}
 use Rattle.board.specs.declared.Found.the-variants.{At}
 use Rattle.machine.specs.Boards.{Board, Fresh}
+use Rattle.machine.specs.Calls.{foundFrame}
 use Rattle.machine.specs.Looks.{look}
-use Rattle.promises.specs.Runs.{someMoment, Call, user, supervisor, Reply, reply, step, next, after, plainReply, plainStep, plainOf}
+use Rattle.promises.specs.Runs.{someMoment, Supervisor, access, attach, detach, map, unmap, protect, move, flushAll, tag, loadAndMap, dropTag, Call, user, supervisor, supervise, Reply, reply, step, next, after, plainReply, plainStep, plainOf}
 use Rattle.promises.specs.Plain.{Plain}
 use Rattle.promises.specs.Sound.{LinesOnce, ValidHolds, ValidOnce}
 
@@ -89,6 +90,57 @@ plainRepliesTo process s p (supervisor c ∷ ks) = plainRepliesTo process s (pla
 abbrev pub segmentOfPage : ℕ → ℕ
 segmentOfPage page = page / (segmentBytes / pageBytes)
 
+-- ---- pages that are moved in (CR 9)
+
+-- the page that a supervisor's call moves, and its new page; `nothing`: the call is no move
+pub data Moves : Type 0 where
+  moves : ℕ → ℕ → Moves
+  nothing : Moves
+
+unfoldable pub movesOf : Supervisor → Moves
+movesOf (access a g) = nothing
+movesOf (attach process slot segment write) = nothing
+movesOf (detach process slot) = nothing
+movesOf (map page frame write) = nothing
+movesOf (unmap page) = nothing
+movesOf (protect page write) = nothing
+movesOf (move page new) = moves page new
+movesOf flushAll = nothing
+movesOf (tag name) = nothing
+movesOf (loadAndMap line) = nothing
+movesOf dropTag = nothing
+
+-- line i of a mapped page, as look shows it
+abbrev pub pageLine : Shape → Board → ℕ → ℕ → List ℕ
+pageLine s b page i = look s b (foundFrame (mappedTo s (b .words) page) * pageLines + i)
+
+-- is the call done?
+abbrev pub isDone : Shape → Board → Supervisor → Bool
+isDone s b c = eqb (supervise s b c .answer .number) 0
+
+-- S tells which segments are meant. Line i of the page that a supervisor's call moves into a segment of S, from one that is not of S, at
+-- the moment before the call; the empty list, if the call is no such move or is refused
+unfoldable pub handedBy : (ℕ → Bool) → ℕ → Shape → Board → Supervisor → Moves → List ℕ
+handedBy S i s b c (moves page new) = cond (isDone s b c && (S (segmentOfPage new) && not (S (segmentOfPage page)))) (pageLine s b page i) []
+handedBy S i s b c nothing = []
+
+abbrev pub handedLine : (ℕ → Bool) → ℕ → Shape → Board → Supervisor → List ℕ
+handedLine S i s b c = handedBy S i s b c (movesOf c)
+
+-- one entry for each of the supervisor's calls of a run, in order
+unfoldable pub handedLines : (ℕ → Bool) → ℕ → Shape → Board → List Call → List (List ℕ)
+handedLines S i s b [] = []
+handedLines S i s b (user q a e ∷ ks) = handedLines S i s (step s b (user q a e) .after) ks
+handedLines S i s b (supervisor c ∷ ks) = handedLine S i s b c ∷ handedLines S i s (step s b (supervisor c) .after) ks
+
+-- a page that is moved into a segment that our process holds at any moment of the run, even if only later, has the same bytes in the two runs when it is
+-- moved, or comes from such a segment. (The runs have the same supervisor calls, so entry n of the two lists is of the same call.)
+abbrev pub MovesAlike : Shape → Board → List Call → List Call → ℕ → Type 0
+MovesAlike s b ks ls process =
+    (i : ℕ) → i < pageLines → handedLines (everHolds s b ks process) i s b ks ≡ handedLines (everHolds s b ks process) i s b ls
+
+-- ---- what is promised
+
 -- what the two runs ks and ls from the board b have in common for our process
 pub record SameForProcess (s : Shape) (b : Board) (ks ls : List Call) (process : ℕ) : Type 0 where
   -- our process gets the same answers and values
@@ -103,7 +155,7 @@ pub record SameForProcess (s : Shape) (b : Board) (ks ls : List Call) (process :
       → mappedTo s (after s b ks .words) page ≡ At frame → line / pageLines ≡ frame
       → look s (after s b ks) line ≡ look s (after s b ls) line
 
--- the premise may be read off either run: of any board at all, if the one meets it, so does the other
+-- the premise on segments may be read off either run: of any board at all, if the one meets it, so does the other
 abbrev pub ApartEither : Type 0
 ApartEither = (s : Shape) (b : Board) (ks ls : List Call) (process : ℕ) → SameFor process ks ls → Apart s b ks process → Apart s b ls process
 
@@ -123,10 +175,24 @@ EveryValidHolds = (s : Shape) (b : Board) → Fresh b → (ks : List Call) → V
 abbrev pub OneCopyValid : Type 0
 OneCopyValid = (s : Shape) (b : Board) → Fresh b → (ks : List Call) → ValidOnce (after s b ks .store)
 
+unfoldable pub isNothing : Moves → Bool
+isNothing (moves page new) = false
+isNothing nothing = true
+
+-- no call of the run is a move
+unfoldable pub noMove : List Call → Bool
+noMove [] = true
+noMove (user q a e ∷ ks) = noMove ks
+noMove (supervisor c ∷ ks) = isNothing (movesOf c) && noMove ks
+
 pub record Demand3 : Type 0 where
   pub apart : (s : Shape) (b : Board) → Fresh b → (ks ls : List Call) (process : ℕ)
-      → SameFor process ks ls → Apart s b ks process → SameForProcess s b ks ls process
+      → SameFor process ks ls → Apart s b ks process → MovesAlike s b ks ls process → SameForProcess s b ks ls process
+  -- without moves, as it was: the further premise asks nothing then, of any board at all
+  pub without-moves : (s : Shape) (b : Board) (ks ls : List Call) (process : ℕ) → SameFor process ks ls → noMove ks ≡ true → MovesAlike s b ks ls process
   pub apart-either : ApartEither
+  -- the same of the premise on moves
+  pub moves-either : (s : Shape) (b : Board) (ks ls : List Call) (process : ℕ) → SameFor process ks ls → MovesAlike s b ks ls process → MovesAlike s b ls ks process
   pub one-copy : OneCopy
   pub every-valid-holds : EveryValidHolds
   pub one-copy-valid : OneCopyValid

@@ -10,3 +10,4 @@ pub mod Entries
 pub mod Limits
 pub mod Values
 pub mod Marks
+pub mod Moves

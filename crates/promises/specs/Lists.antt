@@ -17,7 +17,7 @@ use Rattle.machine.specs.Lists.{Asked, accessWords, askAt, asksFrom, taken, lis
 use Rattle.promises.specs.Runs.{ran, Call, user, supervisor, step, after, Reply, reply, plainOf}
 use Rattle.promises.specs.Sound.{LinesOnce}
 use Rattle.promises.specs.Demand3.{holds, segmentOfPage}
-use Rattle.promises.specs.Brought.{Brought, bring, broughtAfter, broughtReplies, plainBroughtReplies, EachBrings, broughtAtSomeMoment, BroughtApart, TwoRuns}
+use Rattle.promises.specs.Brought.{Brought, bring, broughtAfter, broughtReplies, plainBroughtReplies, EachBrings, broughtAtSomeMoment, BroughtApart, BroughtMovesAlike, TwoRuns}
 
 -- ---- one list
 
@@ -105,9 +105,9 @@ pub record ListsAreCalls : Type 0 where
       → repliesOf b ts ≡ plainBroughtReplies (plainOf b (b .store .memory)) (callsOf b ts)
   -- demand 3: of two such runs our process gets the same in both, and at the end the same bytes stand in its pages
   pub runs-apart : (s : Shape) (b : Board) → Fresh b → (ts us : List Turn) (process : ℕ) → TwoRuns s b (callsOf b ts) (callsOf b us) process
-      → BroughtApart s b (callsOf b ts) process → gets process b ts ≡ gets process b us
+      → BroughtApart s b (callsOf b ts) process → BroughtMovesAlike b (callsOf b ts) (callsOf b us) process → gets process b ts ≡ gets process b us
   pub runs-bytes : (s : Shape) (b : Board) → Fresh b → (ts us : List Turn) (process : ℕ) → TwoRuns s b (callsOf b ts) (callsOf b us) process
-      → BroughtApart s b (callsOf b ts) process → (page frame line : ℕ)
+      → BroughtApart s b (callsOf b ts) process → BroughtMovesAlike b (callsOf b ts) (callsOf b us) process → (page frame line : ℕ)
       → broughtAtSomeMoment (λ slots. holds slots process (segmentOfPage page)) b (callsOf b ts) ≡ true
       → mappedTo s (afterTurns b ts .words) page ≡ At frame → line / pageLines ≡ frame
       → look s (afterTurns b ts) line ≡ look s (afterTurns b us) line

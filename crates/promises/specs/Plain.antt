@@ -1,6 +1,7 @@
 -- The plain machine: segment slots, a page map, a pending tag and flat memory, and no cache.
--- Slot words, frame words, the tag, numbers in bytes and the tests of single rows are the board's own definitions.
--- What an access asks and does, and what map, unmap, protect, flush all and load-and-map leave, is written here from the text of 01 and CR 2.
+-- Slot words, frame words, the tag, numbers in bytes, the tests of single rows and, for map, unmap, protect, move and load-and-map, the rows after number 1
+-- are the board's own definitions.
+-- What an access asks and does, and what map, unmap, protect, move, flush all and load-and-map leave, is written here from the text of 01, CR 2 and CR 9.
 use Prim.Native.Nat.{ℕ}
 use mathlib.Core.Bool.{Bool, not, _&&_, _||_, cond}
 use mathlib.Core.List.{List, [], _∷_}
@@ -21,7 +22,7 @@ use Rattle.stores.specs.declared.Access.{Access}
 use Rattle.machine.specs.Boards.{noTag, tagged}
 use Rattle.machine.specs.Refusals.{Row, row, byTable, lowest, isProcess, isSlot, isPhysicalLine, isName, isGlobal, tooLarge, isOrdinary, isCached, isMapped, wordInUse, alignedTo, outside}
 use Rattle.machine.specs.Accesses.{frameUnder}
-use Rattle.machine.specs.Calls.{foundFrame, mapRows, pageRows, loadRows}
+use Rattle.machine.specs.Calls.{foundFrame, mapRows, pageRows, moveRows, loadRows}
 
 -- the three lengths are of the buffers that the board has besides (records, cache bytes, matrices): number 1 asks for them
 pub record Plain : Type 0 where
@@ -156,6 +157,14 @@ unfoldable pub plainProtect : Shape → Plain → ℕ → Bool → Given
 plainProtect s p page write =
     byTable (plainRefused p) (plainRow1 s p ∷ pageRows s (p .words) page)
     (plainDone (plainWords p (set (p .words) (foundFrame (mappedTo s (p .words) page)) (frameWord page write)) (p .memory)))
+
+-- move gives the old page's frame to the new page, with the same write bit; the frame's bytes stay (CR 9)
+unfoldable pub plainMove : Shape → Plain → ℕ → ℕ → Given
+plainMove s p page new =
+    byTable (plainRefused p) (plainRow1 s p ∷ moveRows s (p .words) page new)
+    (plainDone (plainWords p
+    (set (p .words) (foundFrame (mappedTo s (p .words) page)) (frameWord new (wordWrites (getD (p .words) (foundFrame (mappedTo s (p .words) page)) 0))))
+    (p .memory)))
 
 -- flush all changes nothing: there is no cache
 unfoldable pub plainFlush : Shape → Plain → Given

@@ -11,7 +11,7 @@ use Rattle.stores.specs.declared.Access.{Access}
 use Rattle.machine.specs.Boards.{Board, Outcome}
 use Rattle.machine.specs.Accesses.{userAccess, supervisorAccess}
 use Rattle.machine.specs.Calls as board
-use Rattle.promises.specs.Plain.{Plain, Given, plainUser, plainSupervisor, plainAttach, plainDetach, plainMap, plainUnmap, plainProtect, plainFlush, plainTagging, plainLoadAndMap, plainDropTag}
+use Rattle.promises.specs.Plain.{Plain, Given, plainUser, plainSupervisor, plainAttach, plainDetach, plainMap, plainUnmap, plainProtect, plainMove, plainFlush, plainTagging, plainLoadAndMap, plainDropTag}
 
 -- the supervisor's calls
 pub data Supervisor : Type 0 where
@@ -21,6 +21,7 @@ pub data Supervisor : Type 0 where
   map : ℕ → ℕ → Bool → Supervisor  -- page, frame, write bit
   unmap : ℕ → Supervisor  -- page
   protect : ℕ → Bool → Supervisor  -- page, write bit
+  move : ℕ → ℕ → Supervisor  -- page, new page
   flushAll : Supervisor
   tag : ℕ → Supervisor  -- line name
   loadAndMap : ℕ → Supervisor  -- physical line
@@ -57,6 +58,7 @@ supervise s b (detach process slot) = board.detach s b process slot
 supervise s b (map page frame write) = board.mapPage s b page frame write
 supervise s b (unmap page) = board.unmap s b page
 supervise s b (protect page write) = board.protect s b page write
+supervise s b (move page new) = board.movePage s b page new
 supervise s b flushAll = board.flushAll s b
 supervise s b (tag name) = board.tag s b name
 supervise s b (loadAndMap line) = board.loadAndMap s b line
@@ -94,6 +96,7 @@ plainSupervise s p (detach process slot) = plainDetach s p process slot
 plainSupervise s p (map page frame write) = plainMap s p page frame write
 plainSupervise s p (unmap page) = plainUnmap s p page
 plainSupervise s p (protect page write) = plainProtect s p page write
+plainSupervise s p (move page new) = plainMove s p page new
 plainSupervise s p flushAll = plainFlush s p
 plainSupervise s p (tag name) = plainTagging s p name
 plainSupervise s p (loadAndMap line) = plainLoadAndMap s p line

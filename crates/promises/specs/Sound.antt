@@ -1,8 +1,8 @@
 -- Sound boards: the rules by which a board can be checked, each with its own name.
-use Prim.Native.Nat.{ℕ, _*_, _≤_, _<_}
+use Prim.Native.Nat.{ℕ, zero, suc, _*_, _≤_, _<_}
 use mathlib.Core.Path.{_≡_}
 use mathlib.Core.Bool.{true, false}
-use mathlib.Core.List.{List}
+use mathlib.Core.List.{List, [], _++_}
 use lib.ListN.{length, getD}
 use Rattle.address.specs.Layout.{pageLines}
 use Rattle.address.specs.Addresses.{ordinaryPage}
@@ -70,3 +70,12 @@ ValidOnce x =
 pub record Shows (s : Shape) (b : Board) (memory : List ℕ) : Type 0 where
   pub same-length : length memory ≡ length (b .store .memory)
   pub same-lines : (line : ℕ) → line < pageLines * s .frames → current s (b .store) line ≡ lineOf memory line
+
+-- the bytes that look shows at the first n physical lines, one line after another
+unfoldable pub shownLines : Shape → Store → ℕ → List ℕ
+shownLines s x zero = []
+shownLines s x (suc n) = shownLines s x n ++ current s x n
+
+-- every board that fits shows such a memory
+abbrev pub ShowsSome : Type 0
+ShowsSome = (s : Shape) (b : Board) → ShapeHolds s b → Shows s b (shownLines s (b .store) (pageLines * s .frames))

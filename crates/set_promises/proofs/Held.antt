@@ -26,7 +26,7 @@ use Rattle.lines.proofs.Records.{line-put-other}
 use Rattle.lines.proofs.Sets.{sets-pos, victim-set}
 use Rattle.stores.specs.Stores.{Store, filled, noted, inserted}
 use Rattle.stores.specs.declared.Access.{Access}
-use Rattle.visits.specs.Visits.{mapVisit, unmapVisit, protectVisit, flushVisit, selects, visitedAll}
+use Rattle.visits.specs.Visits.{mapVisit, unmapVisit, protectVisit, moveVisit, flushVisit, selects, visitedAll}
 use Rattle.visits.specs.declared.Deed.{Deed}
 use Rattle.visits.specs.declared.Deed.the-variants.{Drop, Retire, Permit}
 use Rattle.visits.specs.declared.Visit.{Visit}
@@ -37,9 +37,9 @@ use Rattle.machine.specs.Boards.{Board, Outcome, fitsBoard, refused}
 use Rattle.machine.specs.Refusals.{Row, byTable, row1}
 use Rattle.machine.specs.Accesses.{userGlobal, supervisorDone, supervisorAccess}
 use Rattle.machine.specs.Calls as board
-use Rattle.machine.specs.Calls.{mapped, unmapped, protected, loadedBy, loaded}
+use Rattle.machine.specs.Calls.{mapped, unmapped, protected, moved, loadedBy, loaded}
 use Rattle.machine.proofs.Tables.{Passed, table-cases}
-use Rattle.promises.specs.Runs.{Supervisor, access, attach, detach, map, unmap, protect, flushAll, tag, loadAndMap, dropTag, Call, user, supervisor, supervise, step}
+use Rattle.promises.specs.Runs.{Supervisor, access, attach, detach, map, unmap, protect, move, flushAll, tag, loadAndMap, dropTag, Call, user, supervisor, supervise, step}
 use Rattle.promises.specs.Demand2.{OnlyAt, recordTo}
 use Rattle.promises.proofs.Shapes.{board-shaped, board-lined}
 use Rattle.promises.proofs.Places.{demand2-place}
@@ -150,13 +150,14 @@ module _ (s : Shape) (b : Board) where
       go Nothing = inside _ (b .tag .name) (victim-set s (b .uses) (b .store .records) (b .tag .name))
 
   leaves-supervise : (c : Supervisor) → Leaves (wouldUse s b (supervisor c)) (supervise s b c)
-  unfolding wouldUse supervise board.attach board.detach board.mapPage board.unmap board.protect board.flushAll board.tag board.dropTag mapped unmapped protected
+  unfolding wouldUse supervise board.attach board.detach board.mapPage board.unmap board.protect board.movePage board.flushAll board.tag board.dropTag mapped unmapped protected moved
   leaves-supervise (access a g) = leaves-access a g (regionOf g) refl
   leaves-supervise (attach process slot segment write) = leaves-idle _ _ (λ p i name n h. h)
   leaves-supervise (detach process slot) = leaves-idle _ _ (λ p i name n h. h)
   leaves-supervise (map page frame write) = leaves-idle _ _ (λ p. keeps-visit (mapVisit page frame) (p 0))
   leaves-supervise (unmap page) = leaves-idle _ _ (λ p. keeps-visit (unmapVisit page) (p 0))
   leaves-supervise (protect page write) = leaves-idle _ _ (λ p. keeps-visit (protectVisit page write) (p 0))
+  leaves-supervise (move page new) = leaves-idle _ _ (λ p. keeps-visit (moveVisit page new) (p 0))
   leaves-supervise flushAll = leaves-idle _ _ (λ p. keeps-visit flushVisit (p 0))
   leaves-supervise (tag name) = leaves-idle _ _ (λ p i name n h. h)
   leaves-supervise (loadAndMap line) = leaves-loaded line

@@ -20,8 +20,8 @@ use Rattle.store_laws.proofs.Zeroed.{length-zeroed}
 use Rattle.machine.specs.Boards.{Board}
 use Rattle.machine.specs.Refusals.{Row, byTable, outside}
 use Rattle.machine.proofs.Tables.{table-both}
-use Rattle.promises.specs.Plain.{Plain, Given, given, plainRefused, plainRow1, withMemory, plainAccess, supervisorAt, plainUser, plainSupervisor, plainAttach, plainDetach, plainMap, plainUnmap, plainProtect, plainFlush, plainTagging, plainLoadAndMap, plainDropTag}
-use Rattle.promises.specs.Runs.{Supervisor, access, attach, detach, map, unmap, protect, flushAll, tag, loadAndMap, dropTag, Call, user, supervisor, replies, plainReply, plainSupervise, plainStep, plainNext, plainReplies, plainOf}
+use Rattle.promises.specs.Plain.{Plain, Given, given, plainRefused, plainRow1, withMemory, plainAccess, supervisorAt, plainUser, plainSupervisor, plainAttach, plainDetach, plainMap, plainUnmap, plainProtect, plainMove, plainFlush, plainTagging, plainLoadAndMap, plainDropTag}
+use Rattle.promises.specs.Runs.{Supervisor, access, attach, detach, map, unmap, protect, move, flushAll, tag, loadAndMap, dropTag, Call, user, supervisor, replies, plainReply, plainSupervise, plainStep, plainNext, plainReplies, plainOf}
 use Rattle.promises.proofs.Runs.{gained-both}
 use Rattle.promises.proofs.Demand2.{demand2}
 use Rattle.set_promises.specs.Editions.{Twins}
@@ -106,13 +106,14 @@ module _ (f u n l : ℕ) where
           go false = done _ _ _ _ _ refl refl refl
 
       paired-supervise : (c : Supervisor) → Paired (plainSupervise one p c) (plainSupervise four q c)
-      unfolding plainSupervise plainSupervisor plainAttach plainDetach plainMap plainUnmap plainProtect plainFlush plainTagging plainLoadAndMap plainDropTag mappedTo
+      unfolding plainSupervise plainSupervisor plainAttach plainDetach plainMap plainUnmap plainProtect plainMove plainFlush plainTagging plainLoadAndMap plainDropTag mappedTo
       paired-supervise (access a g) = rw (outside-same _ (regionOf g), at-same g (regionOf g)) (paired-table _ _ _ (paired-access (supervisorAt one p g (regionOf g)) a))
       paired-supervise (attach process slot segment write) = paired-table _ _ _ (done 0 _ _ _ _ (length-set (p .slots) _ _) refl refl)
       paired-supervise (detach process slot) = paired-table _ _ _ (done 0 _ _ _ _ (length-set (p .slots) _ _) refl refl)
       paired-supervise (map page frame write) = paired-table _ _ _ (done 0 _ _ _ _ refl (length-set (p .words) _ _) (length-zeroed (p .memory) frame))
       paired-supervise (unmap page) = paired-table _ _ _ (done 0 _ _ _ _ refl (length-set (p .words) _ _) refl)
       paired-supervise (protect page write) = paired-table _ _ _ (done 0 _ _ _ _ refl (length-set (p .words) _ _) refl)
+      paired-supervise (move page new) = paired-table _ _ _ (done 0 _ _ _ _ refl (length-set (p .words) _ _) refl)
       paired-supervise flushAll = paired-table _ _ _ (done 0 _ _ _ _ refl refl refl)
       paired-supervise (tag name) = paired-table _ _ _ (done 0 _ _ _ _ refl refl refl)
       paired-supervise (loadAndMap line) = paired-table _ _ _ (done 0 _ _ _ _ refl refl refl)

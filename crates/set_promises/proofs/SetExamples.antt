@@ -15,14 +15,17 @@ use Rattle.board.specs.Searches.{first}
 use Rattle.board.specs.Shapes.{oneLine, editionHolds, matricesOf, fitsShape}
 use Rattle.board.proofs.Tables.{everyBelow, every-below}
 use Rattle.pages.specs.Pages.{lowestFrom, lowestFrame, mappedTo, freeFrame, directHome, homeBy, homeOf}
-use Rattle.line_bytes.specs.Bytes.{digits, stored, lineOf, withLine, zeros}
+use Rattle.line_bytes.specs.Bytes.{number, digits, stored, lineOf, withLine, zeros}
 use Rattle.sets.specs.Matrices.{cleared, used, onesOf, fewer, fewest}
 use Rattle.lines.specs.Records.{lineAt, putLine}
 use Rattle.lines.specs.Holds.{setAt, holdsLine, holdsAt, holdsName, holderOf}
 use Rattle.lines.specs.Victims.{isEmpty, victimBy, victimAt, usedIn, recordBy}
-use Rattle.stores.specs.Stores.{writtenBack, filled, noted, inserted, performedAt}
+use Rattle.stores.specs.Stores.{writtenBack, filled, noted, dropped, inserted, performedAt}
+use Rattle.ranges.specs.Ranges.{inRange, named}
+use Rattle.visits.specs.Visits.{treated, visited, sweep, visitedAll}
 use Rattle.reach.specs.Reach.{wayByHome, wayBy, wayOf, unreached, mayWrite}
-use Rattle.machine.specs.Refusals.{byTable, tooLarge, isOrdinary, isCached, alignedTo, outside}
+use Rattle.machine.specs.Calls.{foundFrame, moved, movePage}
+use Rattle.machine.specs.Refusals.{byTable, tooLarge, isOrdinary, isCached, isMapped, alignedTo, outside}
 use Rattle.machine.specs.Accesses.{performedOn, accessedBy, usesBy, accessed, userTable, userAccess, supervisorTable, supervisorDone, supervisorAccess}
 use Rattle.promises.specs.Runs.{ran, gained, after, supervise, step}
 use Rattle.promises.proofs.Soundness.{fresh-zeros}
@@ -37,7 +40,7 @@ in-set place test h i e =
     rw z (every-below 4 (λ a. test (place * 4 + a)) h (i % 4) (omega arith))
 
 pub set-examples : SetExamples
-unfolding everyBelow ones regionOf markOf part splice first editionHolds matricesOf fitsShape lowestFrom lowestFrame mappedTo freeFrame directHome homeBy homeOf digits stored lineOf withLine zeros cleared used onesOf fewer fewest lineAt putLine holdsLine holdsAt holdsName holderOf isEmpty victimBy victimAt usedIn recordBy writtenBack filled noted inserted performedAt wayByHome wayBy wayOf unreached mayWrite byTable tooLarge isOrdinary isCached alignedTo outside performedOn accessedBy usesBy accessed userTable userAccess supervisorTable supervisorDone supervisorAccess ran gained supervise step reachedIn wouldUse usedBy isRecord lastFrom
+unfolding everyBelow ones regionOf number dropped named inRange treated visited sweep visitedAll isMapped foundFrame moved movePage markOf part splice first editionHolds matricesOf fitsShape lowestFrom lowestFrame mappedTo freeFrame directHome homeBy homeOf digits stored lineOf withLine zeros cleared used onesOf fewer fewest lineAt putLine holdsLine holdsAt holdsName holderOf isEmpty victimBy victimAt usedIn recordBy writtenBack filled noted inserted performedAt wayByHome wayBy wayOf unreached mayWrite byTable tooLarge isOrdinary isCached alignedTo outside performedOn accessedBy usesBy accessed userTable userAccess supervisorTable supervisorDone supervisorAccess ran gained supervise step reachedIn wouldUse usedBy isRecord lastFrom
 set-examples =
     let zeroed = fresh-zeros shape (zeros (lineBytes * 8)) (zeros pageBytes) in
     let full : Full shape (after shape start run) 1 = in-set 1 (holdsAt shape (after shape start run .store .records)) refl in
@@ -69,6 +72,7 @@ set-examples =
         promised = oldest-once-used small wild refl squares each (prefixLines + 4) full-each all-used;
       };
       busy-pages = record { pushing = refl; staying = refl };
+      page-handed = record { by-one = refl; by-four = refl; held-before = refl; none-after = refl; same-uses = refl };
       two-lines = record { taken = refl; refused-by-1 = refl };
       twin-boards = record {
         fresh-one = fresh-zeros (oneLine 1 0 1 8) (zeros (lineBytes * 8)) (zeros pageBytes);

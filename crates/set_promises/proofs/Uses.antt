@@ -31,7 +31,7 @@ use Rattle.machine.specs.Calls as board
 use Rattle.machine.specs.Calls.{loadedUses, onLoaded, loaded}
 use Rattle.machine.proofs.Tables.{table-cases}
 use Rattle.machine.proofs.Rising.{tables-rise}
-use Rattle.promises.specs.Runs.{Supervisor, access, attach, detach, map, unmap, protect, flushAll, tag, loadAndMap, dropTag, Call, user, supervisor, supervise, step}
+use Rattle.promises.specs.Runs.{Supervisor, access, attach, detach, map, unmap, protect, move, flushAll, tag, loadAndMap, dropTag, Call, user, supervisor, supervise, step}
 use Rattle.promises.specs.Demand2.{recordTo}
 use Rattle.promises.proofs.Demand1.{Tabled, passed, stopped, tabled}
 use Rattle.set_promises.specs.LastUses.{reachedIn, wouldUse, usedBy}
@@ -108,13 +108,14 @@ module _ (s : Shape) (b : Board) where
   -- ---- every call
 
   by-supervise : (c : Supervisor) → ByUse (wouldUse s b (supervisor c)) (supervise s b c)
-  unfolding wouldUse supervise supervisorAccess board.attach board.detach board.mapPage board.unmap board.protect board.flushAll board.tag board.loadAndMap board.dropTag
+  unfolding wouldUse supervise supervisorAccess board.attach board.detach board.mapPage board.unmap board.protect board.movePage board.flushAll board.tag board.loadAndMap board.dropTag
   by-supervise (access a g) = by-table _ _ _ (tables-rise .supervisor-access s b a g) (by-region g a (regionOf g))
   by-supervise (attach process slot segment write) = idle-table _ _ refl
   by-supervise (detach process slot) = idle-table _ _ refl
   by-supervise (map page frame write) = idle-table _ _ refl
   by-supervise (unmap page) = idle-table _ _ refl
   by-supervise (protect page write) = idle-table _ _ refl
+  by-supervise (move page new) = idle-table _ _ refl
   by-supervise flushAll = idle-table _ _ refl
   by-supervise (tag name) = idle-table _ _ refl
   by-supervise (loadAndMap line) = by-table _ _ _ (tables-rise .load-and-map s b line) (by-loaded line _)
@@ -139,5 +140,6 @@ uses-told = record {
   map-leaves = λ s b page frame write. left s b (supervisor (map page frame write)) refl;
   unmap-leaves = λ s b page. left s b (supervisor (unmap page)) refl;
   protect-leaves = λ s b page write. left s b (supervisor (protect page write)) refl;
+  move-leaves = λ s b page new. left s b (supervisor (move page new)) refl;
   flush-leaves = λ s b. left s b (supervisor flushAll) refl;
 }

@@ -21,11 +21,13 @@ use Rattle.lines.specs.declared.Line.{Line}
 use Rattle.stores.specs.declared.Access.{Access}
 use Rattle.machine.specs.Boards.{Board, Fresh, fitsBoard}
 use Rattle.machine.specs.Accesses.{userGlobal, userAccess, supervisorAccess}
+use Rattle.machine.specs.Calls.{movePage}
 use Rattle.promises.specs.Runs.{Call, after, replies}
 use Rattle.promises.specs.Sound.{Sound, Shows, LinesOnce}
 use Rattle.promises.specs.Demand1.{Refusals, ListRefusals, LookRefusals}
 use Rattle.promises.specs.Demand2.{Alike, SoundRun, OnlyAt, recordTo}
-use Rattle.promises.specs.Demand3.{SameFor, Apart, SameForProcess}
+use Rattle.promises.specs.Demand3.{SameFor, Apart, MovesAlike, SameForProcess}
+use Rattle.promises.specs.Moves.{HandedOver}
 use Rattle.promises.specs.Limits.{By1}
 
 -- an edition: a shape for each F, U, P and L
@@ -50,8 +52,12 @@ pub record Demands (edition : Edition) : Type 0 where
       → OnlyAt (eqb (recordTo (edition f u p l) b g)) (b .store) (supervisorAccess (edition f u p l) b a g .after .store)
   -- demand 3
   pub apart : (f u p l : ℕ) (b : Board) → Fresh b → (ks ls : List Call) (process : ℕ) → SameFor process ks ls → Apart (edition f u p l) b ks process
-      → SameForProcess (edition f u p l) b ks ls process
+      → MovesAlike (edition f u p l) b ks ls process → SameForProcess (edition f u p l) b ks ls process
   pub one-copy : (f u p l : ℕ) (b : Board) → Fresh b → (ks : List Call) → LinesOnce (edition f u p l) (after (edition f u p l) b ks .store)
+  -- a move hands the page over (CR 9)
+  pub hands-over : (f u p l : ℕ) (b : Board) → Fresh b → (ks : List Call) (page new : ℕ)
+      → movePage (edition f u p l) (after (edition f u p l) b ks) page new .answer .number ≡ 0
+      → HandedOver (edition f u p l) (after (edition f u p l) b ks) (movePage (edition f u p l) (after (edition f u p l) b ks) page new .after) page new
 
 -- ---- what a place, a victim and a use are in each
 

@@ -24,7 +24,7 @@ use Rattle.lines.specs.Victims.{matrixOf, victimOf, roomFor}
 use Rattle.stores.specs.declared.Access.{Access}
 use Rattle.machine.specs.Boards.{Board, Fresh}
 use Rattle.machine.specs.Accesses.{userGlobal}
-use Rattle.promises.specs.Runs.{access, attach, detach, map, unmap, protect, flushAll, tag, loadAndMap, dropTag, Call, user, supervisor, step, after}
+use Rattle.promises.specs.Runs.{access, attach, detach, map, unmap, protect, move, flushAll, tag, loadAndMap, dropTag, Call, user, supervisor, step, after}
 use Rattle.promises.specs.Demand2.{recordTo}
 
 -- ---- uses
@@ -45,6 +45,7 @@ wouldUse s b (supervisor (detach process slot)) = Nothing
 wouldUse s b (supervisor (map page frame write)) = Nothing
 wouldUse s b (supervisor (unmap page)) = Nothing
 wouldUse s b (supervisor (protect page write)) = Nothing
+wouldUse s b (supervisor (move page new)) = Nothing
 wouldUse s b (supervisor flushAll) = Nothing
 wouldUse s b (supervisor (tag name)) = Nothing
 wouldUse s b (supervisor (loadAndMap line)) =

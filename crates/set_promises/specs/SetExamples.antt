@@ -1,5 +1,5 @@
 -- CR 4, computed on small boards: a run that fills a set of four, and the line that the set then gives up; a wild matrix, of which the same is false until each
--- line was used; two busy pages with one line in a set, and with four; a board of two lines; and a fresh board of each edition.
+-- line was used; two busy pages with one line in a set, and with four; a page handed over (CR 9); a board of two lines; and a fresh board of each edition.
 use Prim.Native.Nat.{ℕ, _+_, _*_, _<_}
 use mathlib.Core.Path.{_≡_}
 use mathlib.Core.Bool.{true}
@@ -7,17 +7,19 @@ use mathlib.Core.List.{List, [], _∷_, _++_}
 use lib.ListN.{replicate, set}
 use Rattle.address.specs.Layout.{lineBytes, pageBytes, prefixBytes, prefixLines, processSlots}
 use Rattle.address.specs.Addresses.{effective, global}
+use Rattle.board.specs.Answers.{answer}
 use Rattle.board.specs.Shapes.{recordWords, matricesOf, oneLine, fourLines}
 use Rattle.board.specs.declared.Shape.{Shape}
+use Rattle.board.specs.declared.Answer.{Answer}
 use Rattle.slots.specs.Slots.{slotWord}
 use Rattle.pages.specs.Pages.{frameWord}
 use Rattle.line_bytes.specs.Bytes.{zeros}
 use Rattle.sets.specs.Matrices.{allOnes, freshMatrix}
-use Rattle.lines.specs.Records.{putLine, newLine}
+use Rattle.lines.specs.Records.{lineAt, putLine, noLine, newLine, changedLine}
 use Rattle.lines.specs.Holds.{placeOf, setAt}
 use Rattle.machine.specs.Boards.{Board, setsBoard, noTag, Fresh, fresh, refused}
 use Rattle.promises.specs.Values.{storing, loading}
-use Rattle.promises.specs.Runs.{gained, access, Call, user, supervisor, step, next, after}
+use Rattle.promises.specs.Runs.{gained, access, move, Call, user, supervisor, step, next, after}
 use Rattle.set_promises.specs.LastUses.{lastUse, Squares, Full, victimNow, OldestUse}
 use Rattle.set_promises.specs.Editions.{Edition, Twins}
 
@@ -117,6 +119,30 @@ pub record BusyPages : Type 0 where
   -- with four both stay
   pub staying : marks (busy fourLines) (pages fourLines) turns ≡ 2 ∷ 2 ∷ 1 ∷ 1 ∷ []
 
+-- ---- a page handed over (CR 9)
+
+-- the process stores in the first page, and the page is moved to page 0x200002, of the same segment. It loads there, and at the old page
+abbrev pub stores : List Call
+stores = user 0 (storing 1 7) (effective 0) ∷ []
+
+abbrev pub hands : List Call
+hands = stores ++ (supervisor (move 0x200000 0x200002) ∷ [])
+
+abbrev pub loads : List Call
+loads = user 0 (loading 1 0) (effective 0x2000) ∷ user 0 (loading 1 0) (effective 0) ∷ []
+
+abbrev pub given : Edition → List Call → List Answer
+given edition ks = gained (next (busy edition)) (λ c k. step (busy edition) c k .answer) (pages edition) ks
+
+pub record PageHanded : Type 0 where
+  -- in either edition the 7 is loaded at the new page, and the load at the old one is refused by 8
+  pub by-one : given oneLine (hands ++ loads) ≡ answer 0 0 2 ∷ answer 0 0 0 ∷ answer 0 7 2 ∷ answer 8 0 0 ∷ []
+  pub by-four : given fourLines (hands ++ loads) ≡ answer 0 0 2 ∷ answer 0 0 0 ∷ answer 0 7 2 ∷ answer 8 0 0 ∷ []
+  -- the line leaves its set, and the matrix is left
+  pub held-before : lineAt (after (busy fourLines) (pages fourLines) stores .store .records) 0 ≡ changedLine (newLine 0x20000000 0 true)
+  pub none-after : lineAt (after (busy fourLines) (pages fourLines) hands .store .records) 0 ≡ noLine
+  pub same-uses : after (busy fourLines) (pages fourLines) hands .uses ≡ after (busy fourLines) (pages fourLines) stores .uses
+
 -- ---- two lines
 
 -- with one line in a set a board may have two; with sets of four it is refused by 1. (It has no matrix in either edition)
@@ -141,5 +167,6 @@ pub record SetExamples : Type 0 where
   pub wild-matrix : WildMatrix
   pub each-used : EachUsed
   pub busy-pages : BusyPages
+  pub page-handed : PageHanded
   pub two-lines : TwoLines
   pub twin-boards : TwinBoards

@@ -10,7 +10,7 @@ use Rattle.board.specs.declared.Found.the-variants.{At, Nothing}
 use Rattle.sets.specs.Matrices.{Matrix, entryAt, Square, used}
 use Rattle.lines.specs.Victims.{Uses, usedIn}
 use Rattle.machine.specs.Boards.{Board}
-use Rattle.promises.specs.Runs.{map, unmap, protect, flushAll, Call, supervisor, step}
+use Rattle.promises.specs.Runs.{map, unmap, protect, move, flushAll, Call, supervisor, step}
 use Rattle.set_promises.specs.LastUses.{usedBy}
 
 -- a use of the record, if there is one
@@ -30,8 +30,9 @@ pub record EntriesTold : Type 0 where
 pub record UsesTold : Type 0 where
   -- the matrices after a call are those before it, with the use of the record that the call uses
   pub by-use : (s : Shape) (b : Board) (k : Call) → step s b k .after .uses ≡ usedIf s (b .uses) (usedBy s b k)
-  -- the calls that drop lines, and protect, leave every matrix
+  -- the calls that drop lines, move among them (CR 9), and protect leave every matrix
   pub map-leaves : (s : Shape) (b : Board) (page frame : ℕ) (write : Bool) → step s b (supervisor (map page frame write)) .after .uses ≡ b .uses
   pub unmap-leaves : (s : Shape) (b : Board) (page : ℕ) → step s b (supervisor (unmap page)) .after .uses ≡ b .uses
   pub protect-leaves : (s : Shape) (b : Board) (page : ℕ) (write : Bool) → step s b (supervisor (protect page write)) .after .uses ≡ b .uses
+  pub move-leaves : (s : Shape) (b : Board) (page new : ℕ) → step s b (supervisor (move page new)) .after .uses ≡ b .uses
   pub flush-leaves : (s : Shape) (b : Board) → step s b (supervisor flushAll) .after .uses ≡ b .uses
