@@ -1,4 +1,4 @@
--- A run, call by call: its answers, its replies, the board after it, and what its slots pass at some moment of it.
+-- A run, call by call: its answers, its replies, the board after it, what its moves hand over, and what its slots pass at some moment of it.
 use Prim.Native.Nat.{ℕ, zero, suc, _+_, _*_, _<_}
 use mathlib.Core.Logic.{_≢_}
 use mathlib.Core.Path.{_≡_, refl, ap}
@@ -21,7 +21,7 @@ use Rattle.stores.specs.Stores.{store, mustWriteBack, writtenBack}
 use Rattle.machine.specs.Boards.{Board, Outcome, outcome}
 use Rattle.store_laws.proofs.Zeroed.{zeros-at}
 use Rattle.promises.specs.Runs.{ran, gained, someMoment, Call, user, supervisor, step, next, after, Reply, reply, replies}
-use Rattle.promises.specs.Demand3.{someSlot, atSomeMoment, repliesTo}
+use Rattle.promises.specs.Demand3.{someSlot, atSomeMoment, repliesTo, handedLine, handedLines}
 use Rattle.example_runs.specs.Examples.{answers}
 
 -- ---- records that hold nothing
@@ -85,6 +85,19 @@ module _ {s : Shape} where
   ran-replies-to process ended = refl
   ran-replies-to process (_then_ {k = user q u i} x r) = let e = x .does in rw (e, ran-replies-to process r)
   ran-replies-to process (_then_ {k = supervisor u} x r) = let e = x .does in rw e (ran-replies-to process r)
+
+  -- what its moves hand over
+  module _ (S : ℕ → Bool) (i : ℕ) where
+    unfoldable pub handed : {b c : Board} {ks : List Call} {l : List Answer} → Ran s b ks l c → List (List ℕ)
+    handed ended = []
+    handed (_then_ {k = user q u e} x r) = handed r
+    handed (_then_ {b} {k = supervisor u} x r) = handedLine S i s b u ∷ handed r
+
+    pub ran-handed : {b c : Board} {ks : List Call} {l : List Answer} (r : Ran s b ks l c) → handedLines S i s b ks ≡ handed r
+    unfolding handedLines handed
+    ran-handed ended = refl
+    ran-handed (_then_ {k = user q u j} x r) = let e = x .does in rw e (ran-handed r)
+    ran-handed (_then_ {k = supervisor u} x r) = let e = x .does in rw (e, ran-handed r)
 
   -- what the slots of a run never pass, and what those at its end pass
   module _ (test : List ℕ → Bool) where

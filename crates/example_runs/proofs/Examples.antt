@@ -38,7 +38,7 @@ use Rattle.store_laws.proofs.Bytes.{splice-in, line-ext, line-same, line-with-o
 use Rattle.store_laws.proofs.Zeroed.{zeros-at, length-zeroed, zeroed-line-in, zeroed-line-out}
 use Rattle.promises.specs.Runs.{attach, map, Call, supervisor, supervise, step, after, Reply}
 use Rattle.promises.specs.Demand1.{supervisorRows, rowsOf, appliesIn}
-use Rattle.promises.specs.Demand3.{wordHolds, wordWritesTo, holds, holdsForWriting, atSomeMoment, everHolds, everWrites, Apart, withoutOthers}
+use Rattle.promises.specs.Demand3.{wordHolds, wordWritesTo, holds, holdsForWriting, atSomeMoment, everHolds, everWrites, Apart, withoutOthers, movesOf, MovesAlike, isNothing, noMove}
 use Rattle.promises.proofs.Soundness.{fresh-zeros}
 use Rattle.promises.proofs.Demand2.{demand2}
 use Rattle.promises.proofs.Demand3.{demand3}
@@ -394,15 +394,16 @@ apart-A segment other b d e f = go (eqb 2048 segment) refl
     go false t = clash (everHolds shape start runA 0 segment) e (never-holds segment t)
 
 pub example3 : Example3
-unfolding kept withoutOthers lowestFrom lowestFrame mappedTo
+unfolding kept withoutOthers movesOf isNothing noMove lowestFrom lowestFrame mappedTo
 example3 = record {
   premise-met = apart-A;
   same-calls = refl;
+  moves-alike = alike-AB;
   held = held-A;
   held-by-other = finally (λ slots. holds slots 1 2048) ranA holds-shared;
   written-by-other = finally (λ slots. holdsForWriting slots 1 2049) ranA writes-other;
   others-own = never-holds 2049 refl;
-  promised = demand3 .apart shape start fresh-start runA runB 0 refl apart-A;
+  promised = demand3 .apart shape start fresh-start runA runB 0 refl apart-A alike-AB;
   replies-A = ran-replies-to 0 ranA;
   replies-B = ran-replies-to 0 ranB;
   answers-B = ran-answers ranB;
@@ -418,16 +419,20 @@ example3 = record {
     held-A : everHolds shape start runA 0 2048 ≡ true
     held-A = finally (λ slots. holds slots 0 2048) ranA (holds-own false)
 
+    alike-AB : MovesAlike shape start runA runB 0
+    alike-AB = demand3 .without-moves shape start runA runB 0 refl refl
+
 values-apart : _≡_ {A = List Reply} (gets 0 0 ∷ gets 0 7 ∷ []) (gets 0 0 ∷ gets 0 50 ∷ []) → ⊥
 values-apart e = let z : _≡_ {A = ℕ} 7 50 = ap (λ (l : List Reply). getD l 1 (gets 0 0) .value) e in omega arith
 
 pub broken3 : Broken3
-unfolding kept withoutOthers
+unfolding kept withoutOthers movesOf isNothing noMove
 broken3 = record {
   premise-broken = λ apart.
       apart 2048 1 (omega arith) (λ e. omega arith) (finally (λ slots. holds slots 0 2048) ranC (holds-own true))
       (finally (λ slots. holdsForWriting slots 1 2048) ranC writes-shared);
   same-calls = refl;
+  moves-alike = demand3 .without-moves shape start runC runD 0 refl refl;
   replies-with = ran-replies-to 0 ranC;
   replies-without = ran-replies-to 0 ranD;
   replies-differ = λ e. values-apart (sym (ran-replies-to 0 ranC) ∙ e ∙ ran-replies-to 0 ranD);

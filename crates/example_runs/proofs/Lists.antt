@@ -17,8 +17,8 @@ use Rattle.machine.specs.Boards.{Board, fitsBoard}
 use Rattle.machine.specs.Refusals.{byTable}
 use Rattle.machine.specs.Lists.{Asked, asksFrom, answered, oneByOne, listed, listDone, userAccesses}
 use Rattle.promises.specs.Runs.{someMoment, Call, user, supervisor, Reply, reply, step, after}
-use Rattle.promises.specs.Demand3.{holds, holdsForWriting, atSomeMoment, repliesTo}
-use Rattle.promises.specs.Brought.{bringing, broughtNext, broughtAtSomeMoment, broughtWithoutOthers, broughtRepliesTo}
+use Rattle.promises.specs.Demand3.{holds, holdsForWriting, atSomeMoment, repliesTo, movesOf, handedBy}
+use Rattle.promises.specs.Brought.{bringing, broughtNext, broughtAtSomeMoment, broughtWithoutOthers, broughtHandedLines, BroughtMovesAlike, broughtRepliesTo}
 use Rattle.promises.specs.Values.{asUser, asks}
 use Rattle.promises.specs.Lists.{asCall, turnCalls, callsOf}
 use Rattle.promises.proofs.Brought.{one-shape}
@@ -77,6 +77,11 @@ is-B : callsOf start turnsB ≡ bringing shape runB
 unfolding callsOf turnCalls asksFrom bringing
 is-B = rw start-fits
 
+-- neither has a move
+alike : BroughtMovesAlike start (bringing shape runA) (bringing shape runB) 0
+unfolding movesOf handedBy broughtHandedLines bringing
+alike i b = refl
+
 pub list-example : ListExample
 unfolding userAccesses byTable oneByOne asksFrom broughtWithoutOthers bringing
 list-example = record {
@@ -96,6 +101,7 @@ list-example = record {
   };
   apart = rw is-A (λ segment other b d h w. example3 .premise-met segment other b d (rw (one-moment shape (λ slots. holds slots 0 segment) start runA) at h)
       (rw (one-moment shape (λ slots. holdsForWriting slots other segment) start runA) at w));
+  moves-alike = rw (is-A, is-B) alike;
   gets-A = got 0 start turnsA ∙ ap (broughtRepliesTo 0 start) is-A ∙ one-replies shape 0 start runA ∙ example3 .replies-A;
   gets-B = got 0 start turnsB ∙ ap (broughtRepliesTo 0 start) is-B ∙ one-replies shape 0 start runB ∙ example3 .replies-B;
 }

@@ -16,7 +16,7 @@ use Rattle.board.specs.Shapes.{editionHolds, matricesOf, fitsShape}
 use Rattle.board.specs.declared.Shape.{Shape}
 use Rattle.board.specs.declared.Answer.{Answer}
 use Rattle.slots.specs.Slots.{slotWord}
-use Rattle.pages.specs.Pages.{frameWord, lowestFrom, lowestFrame, mappedTo, freeFrame, directHome, homeBy, homeOf}
+use Rattle.pages.specs.Pages.{frameWord, namesPage, lowestFrom, lowestFrame, mappedTo, freeFrame, directHome, homeBy, homeOf}
 use Rattle.line_bytes.specs.Bytes.{number, digits, stored, lineOf, withLine, zeros, zeroedFrame}
 use Rattle.line_bytes.proofs.Bytes.{length-line}
 use Rattle.lines.specs.Records.{wordOf, lineAt, putLine, newLine, changedLine, permittedLine}
@@ -33,10 +33,11 @@ use Rattle.machine.specs.Refusals.{byTable, tooLarge, alignedTo, isOrdinary, is
 use Rattle.machine.specs.Accesses.{performedOn, accessedBy, usesBy, accessed, userTable, userAccess, supervisorTable, supervisorDone, supervisorAccess}
 use Rattle.machine.specs.Calls as calls
 use Rattle.store_laws.proofs.Bytes.{line-ext}
-use Rattle.promises.specs.Runs.{gained, Supervisor, access, attach, detach, map, unmap, protect, flushAll, tag, loadAndMap, dropTag, Call, user, supervisor, supervise, step, Reply, reply, replies, plainReplies, plainOf}
+use Rattle.store_laws.proofs.Zeroed.{length-zeroed}
+use Rattle.promises.specs.Runs.{gained, Supervisor, access, attach, detach, map, unmap, protect, move, flushAll, tag, loadAndMap, dropTag, Call, user, supervisor, supervise, step, Reply, reply, replies, plainReplies, plainOf}
 use Rattle.promises.proofs.Demand2.{demand2}
 use Rattle.example_runs.specs.Examples.{shape, memory, start, load, save, gets, lineWith}
-use Rattle.example_runs.specs.Wrong.{Parts, superviseBy, stepBy, repliesBy, rightParts, RightMeets, Breaks, opening, opened, unmapKeepsLines, UnmapBreaks, protectKeepsLines, ProtectBreaks, noWriteBack, NoWriteBackBreaks, partCompared, PartComparedBreaks, mapKeepsLines, MapBreaks}
+use Rattle.example_runs.specs.Wrong.{Parts, superviseBy, stepBy, repliesBy, rightParts, RightMeets, Breaks, opening, opened, unmapKeepsLines, UnmapBreaks, protectKeepsLines, ProtectBreaks, moveKeepsLines, MoveBreaks, noWriteBack, NoWriteBackBreaks, moveLosesLines, MoveLosesBreaks, moveCopiesZeros, MoveZerosBreaks, partCompared, PartComparedBreaks, mapKeepsLines, MapBreaks}
 use Rattle.example_runs.proofs.Examples.{length-memory, zeroed-here, written-here, untagged, slots0, slots1, words1, empty, memory1, memory2, ours, does-map-first, memory1-fits, memory2-fits, memory2-first, memory3, memory3-fits, memory3-first, memory3-other, fresh-start}
 use Rattle.example_runs.proofs.Chains.{Does}
 
@@ -50,6 +51,7 @@ right-supervises s b (detach process slot) = refl
 right-supervises s b (map page frame write) = refl
 right-supervises s b (unmap page) = refl
 right-supervises s b (protect page write) = refl
+right-supervises s b (move page new) = refl
 right-supervises s b flushAll = refl
 right-supervises s b (tag name) = refl
 right-supervises s b (loadAndMap line) = refl
@@ -166,18 +168,22 @@ right-opening r = ran-opening refl (right-does (does-save memory2 memory2-fits m
 
 -- ---- unmap without dropping lines
 
--- the board after its unmap: the word is 0, no line is held, and the 50 is in memory
-abbrev unmapped : List ℕ → Board
-unmapped m = untagged slots2 (wordsWith 0) (0 ∷ 0 ∷ 0 ∷ 0 ∷ []) (lineWith 50 ++ lineWith 0) (withLine m 256 (lineWith 50))
+-- by the word of frame 1: no line is held; and the 50 is in memory
+abbrev leftover : ℕ → List ℕ → Board
+leftover word m = untagged slots2 (wordsWith word) (0 ∷ 0 ∷ 0 ∷ 0 ∷ []) (lineWith 50 ++ lineWith 0) m
+
+abbrev retired : ℕ → List ℕ → Board
+retired word m = leftover word (withLine m 256 (lineWith 50))
 
 module _ (m : List ℕ) (fits : length m ≡ 16384) where
-  does-unmap : Does shape (holding (frameWord 0x200000 true) (changedLine ours) 50 m) (supervisor (unmap 0x200000)) (answer 0 0 0) (unmapped m)
+  does-unmap : Does shape (holding (frameWord 0x200000 true) (changedLine ours) 50 m) (supervisor (unmap 0x200000)) (answer 0 0 0) (retired 0 m)
   unfolding ones onesIn part editionHolds matricesOf fitsShape lowestFrom lowestFrame mappedTo lineOf lineAt putLine holdsLine holdsAt writtenBack noted dropped named inRange treated visited sweep visitedAll byTable isMapped calls.foundFrame calls.unmapped calls.unmap supervise step
   does-unmap = record { does = rw fits }
 
-  does-refuse-unmapped : Does shape (unmapped m) (load 0 3) (answer 8 0 0) (unmapped m)
+  -- refused where the word doesn't name the page
+  does-refuse-unmapped : (word : ℕ) → namesPage word 0x200000 ≡ false → Does shape (retired word m) (load 0 3) (answer 8 0 0) (retired word m)
   unfolding ones onesIn editionHolds matricesOf fitsShape lowestFrom lowestFrame mappedTo directHome homeBy homeOf lineAt holdsLine holdsAt first holdsName holderOf wayByHome wayBy wayOf unreached byTable tooLarge alignedTo userTable userAccess step
-  does-refuse-unmapped = record { does = rw (length-line m 256 (lineWith 50), fits) }
+  does-refuse-unmapped word h = record { does = rw (length-line m 256 (lineWith 50), fits, h) }
 
   -- a held line is loaded from, whatever the frame word says
   does-hit : (word : ℕ) → Does shape (holding word (changedLine ours) 50 m) (load 0 3) (answer 0 50 1) (holding word (changedLine ours) 50 m)
@@ -196,7 +202,7 @@ unmap-breaks =
     (ran-opening refl (as-board refl (does-save memory2 memory2-fits memory2-first))
     (does-unmap-wrong memory2 memory2-fits next as-board refl (does-hit memory2 memory2-fits 0) next ended))
     (right-opening
-    (right-does (does-unmap memory2 memory2-fits) next right-does (does-refuse-unmapped memory2 memory2-fits) next ended))
+    (right-does (does-unmap memory2 memory2-fits) next right-does (does-refuse-unmapped memory2 memory2-fits 0 refl) next ended))
     (values-apart 6 (omega arith))
 
 -- ---- protect that forgets the lines
@@ -236,6 +242,29 @@ protect-breaks =
     (right-does (does-protect memory2 memory2-fits) next right-does (does-refuse-read-only memory2 memory2-fits) next ended))
     (numbers-apart 6 (omega arith))
 
+-- ---- move that forgets the lines
+
+module _ (m : List ℕ) (fits : length m ≡ 16384) where
+  does-move : Does shape (holding (frameWord 0x200000 true) (changedLine ours) 50 m) (supervisor (move 0x200000 0x300001)) (answer 0 0 0)
+      (retired (frameWord 0x300001 true) m)
+  unfolding ones onesIn part editionHolds matricesOf fitsShape lowestFrom lowestFrame mappedTo lineOf lineAt putLine holdsLine holdsAt writtenBack noted dropped named inRange treated visited sweep visitedAll byTable isMapped calls.foundFrame calls.moved calls.movePage supervise step
+  does-move = record { does = rw fits }
+
+  does-move-wrong : DoesBy moveKeepsLines (holding (frameWord 0x200000 true) (changedLine ours) 50 m) (supervisor (move 0x200000 0x300001)) (answer 0 0 0)
+      (holding (frameWord 0x300001 true) (changedLine ours) 50 m)
+  unfolding superviseBy stepBy supervise step
+  does-move-wrong = let e = does-move .does in record { does = rw e }
+
+pub move-breaks : MoveBreaks
+unfolding stepBy step
+move-breaks =
+    breaks
+    (ran-opening refl (as-board refl (does-save memory2 memory2-fits memory2-first))
+    (does-move-wrong memory2 memory2-fits next as-board refl (does-hit memory2 memory2-fits (frameWord 0x300001 true)) next ended))
+    (right-opening
+    (right-does (does-move memory2 memory2-fits) next right-does (does-refuse-unmapped memory2 memory2-fits (frameWord 0x300001 true) refl) next ended))
+    (values-apart 6 (omega arith))
+
 -- ---- no write-back on eviction
 
 -- the line of the other page at place 0
@@ -269,6 +298,54 @@ no-write-back-breaks =
     (memory-kept (does-push memory2 memory2-fits memory3-other) next memory-kept (does-reload memory2 memory2-fits 0 memory2-first) next ended))
     (right-opening
     (right-does (does-push memory2 memory2-fits memory3-other) next right-does (does-reload memory3 memory3-fits 50 memory3-first) next ended))
+    (values-apart 6 (omega arith))
+
+-- ---- move that drops the lines without writing them back
+
+-- the page's first line under its new name
+abbrev renamed : Line
+renamed = newLine 0x30000100 256 true
+
+module _ (m : List ℕ) (fits : length m ≡ 16384) where
+  does-move-losing : DoesBy moveLosesLines (holding (frameWord 0x200000 true) (changedLine ours) 50 m) (supervisor (move 0x200000 0x300001)) (answer 0 0 0)
+      (leftover (frameWord 0x300001 true) m)
+  unfolding superviseBy stepBy supervise step
+  does-move-losing = let e = does-move m fits .does in record { does = rw e }
+
+  -- the load at the new page finds what is in memory
+  does-load-renamed : (value : ℕ) → lineOf m 256 ≡ lineWith value
+      → Does shape (leftover (frameWord 0x300001 true) m) (load 0 0x401003) (answer 0 value 2) (holding (frameWord 0x300001 true) renamed value m)
+  unfolding ones onesIn part splice editionHolds matricesOf fitsShape lowestFrom lowestFrame mappedTo homeBy homeOf number lineOf withLine lineAt putLine holdsLine holdsAt first holdsName holderOf isEmpty victimBy victimAt usedIn writtenBack filled noted inserted performedAt wayByHome wayBy wayOf unreached mayWrite byTable tooLarge alignedTo markOf performedOn accessedBy usesBy accessed userTable userAccess step
+  does-load-renamed value h = record { does = rw (fits, h, zero-add) }
+
+pub move-loses-breaks : MoveLosesBreaks
+unfolding stepBy step
+move-loses-breaks =
+    breaks
+    (ran-opening refl (as-board refl (does-save memory2 memory2-fits memory2-first))
+    (does-move-losing memory2 memory2-fits next as-board refl (does-load-renamed memory2 memory2-fits 0 memory2-first) next ended))
+    (right-opening
+    (right-does (does-move memory2 memory2-fits) next right-does (does-load-renamed memory3 memory3-fits 50 memory3-first) next ended))
+    (values-apart 6 (omega arith))
+
+-- ---- move that fills the frame with zeros
+
+module _ (m : List ℕ) (fits : length m ≡ 16384) where
+  does-move-zeroing : DoesBy moveCopiesZeros (holding (frameWord 0x200000 true) (changedLine ours) 50 m) (supervisor (move 0x200000 0x300001)) (answer 0 0 0)
+      (leftover (frameWord 0x300001 true) (zeroedFrame (withLine m 256 (lineWith 50)) 1))
+  unfolding lowestFrom lowestFrame mappedTo calls.foundFrame superviseBy stepBy supervise step
+  does-move-zeroing = let e = does-move m fits .does in record { does = rw e }
+
+pub move-zeros-breaks : MoveZerosBreaks
+unfolding stepBy step
+move-zeros-breaks =
+    breaks
+    (ran-opening refl (as-board refl (does-save memory2 memory2-fits memory2-first))
+    (does-move-zeroing memory2 memory2-fits
+    next as-board refl (does-load-renamed (zeroedFrame memory3 1) (length-zeroed memory3 1 ∙ memory3-fits) 0 (zeroed-here memory3 memory3-fits 256 (omega arith) 1 refl))
+    next ended))
+    (right-opening
+    (right-does (does-move memory2 memory2-fits) next right-does (does-load-renamed memory3 memory3-fits 50 memory3-first) next ended))
     (values-apart 6 (omega arith))
 
 -- ---- only part of a name compared

@@ -19,7 +19,7 @@ use Rattle.machine.specs.Looks.{look}
 use Rattle.promises.specs.Plain.{plainLook}
 use Rattle.promises.specs.Runs.{attach, map, Call, user, supervisor, Reply, step, after, plainAfter, plainReplies, plainOf}
 use Rattle.promises.specs.Demand1.{rowsOf, appliesIn}
-use Rattle.promises.specs.Demand3.{everHolds, everWrites, Apart, SameFor, repliesTo, segmentOfPage, SameForProcess}
+use Rattle.promises.specs.Demand3.{everHolds, everWrites, Apart, SameFor, repliesTo, segmentOfPage, MovesAlike, SameForProcess}
 
 -- ---- the board and the calls
 
@@ -127,6 +127,7 @@ pub record Example3 : Type 0 where
   -- runs A and B meet the premises of demand 3 for process 0
   pub premise-met : Apart shape start runA 0
   pub same-calls : SameFor 0 runA runB
+  pub moves-alike : MovesAlike shape start runA runB 0
   -- both processes hold segment 2048, and process 1 holds segment 2049 for writing, which process 0 never holds
   pub held : everHolds shape start runA 0 2048 ≡ true
   pub held-by-other : everHolds shape start runA 1 2048 ≡ true
@@ -150,10 +151,11 @@ pub record Example3 : Type 0 where
   pub memory-A : lineOf (after shape start runA .store .memory) 256 ≡ lineWith 50
   pub memory-B : lineOf (after shape start runB .store .memory) 256 ≡ lineWith 0
 
--- without the premise the promise breaks: process 1 may write to the segment, the calls of process 0 are the same, and it gets 7 or 50
+-- without the premise on segments the promise breaks: process 1 may write to the segment, the calls of process 0 are the same, and it gets 7 or 50
 pub record Broken3 : Type 0 where
   pub premise-broken : Apart shape start runC 0 → ⊥
   pub same-calls : SameFor 0 runC runD
+  pub moves-alike : MovesAlike shape start runC runD 0
   pub replies-with : repliesTo 0 shape start runC ≡ gets 0 0 ∷ gets 0 7 ∷ []
   pub replies-without : repliesTo 0 shape start runD ≡ gets 0 0 ∷ gets 0 50 ∷ []
   pub replies-differ : repliesTo 0 shape start runC ≡ repliesTo 0 shape start runD → ⊥

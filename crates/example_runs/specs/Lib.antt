@@ -6,3 +6,4 @@ pub mod Largest
 pub mod Values
 pub mod Marks
 pub mod Lists
+pub mod Moves

@@ -9,7 +9,7 @@ use Rattle.board.specs.declared.Answer.{Answer}
 use Rattle.machine.specs.Boards.{Board, fitsBoard}
 use Rattle.machine.specs.Lists.{accessWords, answered, listed, listRefused, userAccesses}
 use Rattle.promises.specs.Runs.{after}
-use Rattle.promises.specs.Brought.{bringing, BroughtApart, TwoRuns}
+use Rattle.promises.specs.Brought.{bringing, BroughtApart, BroughtMovesAlike, TwoRuns}
 use Rattle.promises.specs.Lists.{Turn, single, list, callsOf, gets}
 use Rattle.example_runs.specs.Examples.{shape, start, load, save, gets as given, opening, runA, runB}
 
@@ -61,5 +61,6 @@ pub record ListExample : Type 0 where
   pub calls-B : callsOf start turnsB ≡ bringing shape runB
   pub two-runs : TwoRuns shape start (callsOf start turnsA) (callsOf start turnsB) 0
   pub apart : BroughtApart shape start (callsOf start turnsA) 0
+  pub moves-alike : BroughtMovesAlike start (callsOf start turnsA) (callsOf start turnsB) 0
   pub gets-A : gets 0 start turnsA ≡ given 0 0 ∷ given 0 50 ∷ []
   pub gets-B : gets 0 start turnsB ≡ given 0 0 ∷ given 0 50 ∷ []

@@ -1,5 +1,5 @@
--- 01, "Shortcuts that look fine": wrong machines, and for each a run from a fresh board in which it doesn't give the plain machine's replies, though the
--- board does. So it breaks demand 2.
+-- 01, "Shortcuts that look fine", and three of CR 9: wrong machines, and for each a run from a fresh board in which it doesn't give the plain machine's
+-- replies, though the board does. So it breaks demand 2.
 use Prim.Native.Nat.{ℕ, _%_, _^_}
 use mathlib.Core.Path.{_≡_}
 use mathlib.Core.Bool.{Bool, true, false, cond}
@@ -8,6 +8,7 @@ use lib.Dec.{eqb}
 use Rattle.address.specs.Addresses.{global, nameOf}
 use Rattle.address.specs.declared.Effective.{Effective}
 use Rattle.board.specs.declared.Shape.{Shape}
+use Rattle.pages.specs.Pages.{mappedTo}
 use Rattle.lines.specs.Records.{lineAt}
 use Rattle.lines.specs.Holds.{placeOf, firstAt}
 use Rattle.lines.specs.declared.Line.{Line}
@@ -16,7 +17,7 @@ use Rattle.stores.specs.declared.Access.{Access}
 use Rattle.machine.specs.Boards.{Board, Fresh, Outcome, outcome, withStore}
 use Rattle.machine.specs.Accesses.{userGlobal, userAccess}
 use Rattle.machine.specs.Calls as calls
-use Rattle.promises.specs.Runs.{Supervisor, access, attach, detach, map, unmap, protect, flushAll, tag, loadAndMap, dropTag, Call, user, supervisor, supervise, Reply, reply, replies, plainReplies, plainOf}
+use Rattle.promises.specs.Runs.{Supervisor, access, attach, detach, map, unmap, protect, move, flushAll, tag, loadAndMap, dropTag, Call, user, supervisor, supervise, Reply, reply, replies, plainReplies, plainOf}
 use Rattle.example_runs.specs.Examples.{shape, memory, start, load, save, gets}
 
 -- ---- machines, and the demand
@@ -27,6 +28,7 @@ pub record Parts : Type 0 where
   pub maps : Shape → Board → ℕ → ℕ → Bool → Outcome
   pub unmaps : Shape → Board → ℕ → Outcome
   pub protects : Shape → Board → ℕ → Bool → Outcome
+  pub moves : Shape → Board → ℕ → ℕ → Outcome
 
 -- the machine with these calls; its other calls are the board's
 unfoldable pub superviseBy : Parts → Shape → Board → Supervisor → Outcome
@@ -36,6 +38,7 @@ superviseBy p s b (detach process slot) = supervise s b (detach process slot)
 superviseBy p s b (map page frame write) = p .maps s b page frame write
 superviseBy p s b (unmap page) = p .unmaps s b page
 superviseBy p s b (protect page write) = p .protects s b page write
+superviseBy p s b (move page new) = p .moves s b page new
 superviseBy p s b flushAll = supervise s b flushAll
 superviseBy p s b (tag name) = supervise s b (tag name)
 superviseBy p s b (loadAndMap line) = supervise s b (loadAndMap line)
@@ -56,7 +59,7 @@ GivesPlainReplies p = (s : Shape) (b : Board) → Fresh b → (ks : List Call) �
 
 -- the board's own calls meet it
 abbrev pub rightParts : Parts
-rightParts = record { accesses = userAccess; maps = calls.mapPage; unmaps = calls.unmap; protects = calls.protect }
+rightParts = record { accesses = userAccess; maps = calls.mapPage; unmaps = calls.unmap; protects = calls.protect; moves = calls.movePage }
 
 abbrev pub RightMeets : Type 0
 RightMeets = GivesPlainReplies rightParts
@@ -89,7 +92,13 @@ storeKept b o = outcome (o .answer) (withStore (o .after) (b .store))
 
 -- unmap only sets the word to 0
 abbrev pub unmapKeepsLines : Parts
-unmapKeepsLines = record { accesses = userAccess; maps = calls.mapPage; unmaps = λ s b page. storeKept b (calls.unmap s b page); protects = calls.protect }
+unmapKeepsLines = record {
+  accesses = userAccess;
+  maps = calls.mapPage;
+  unmaps = λ s b page. storeKept b (calls.unmap s b page);
+  protects = calls.protect;
+  moves = calls.movePage;
+}
 
 -- the page is unmapped, and the process still loads its 50
 abbrev pub UnmapBreaks : Type 0
@@ -104,12 +113,29 @@ protectKeepsLines = record {
   maps = calls.mapPage;
   unmaps = calls.unmap;
   protects = λ s b page write. storeKept b (calls.protect s b page write);
+  moves = calls.movePage;
 }
 
 -- the page is made read-only, and the process still stores to it
 abbrev pub ProtectBreaks : Type 0
 ProtectBreaks =
     Breaks protectKeepsLines (opening (supervisor (protect 0x200000 false) ∷ save 0 1 3 7 ∷ [])) (opened (gets 0 0 ∷ gets 0 0 ∷ [])) (opened (gets 0 0 ∷ gets 9 0 ∷ []))
+
+-- ---- move that changes the frame word and forgets the lines (CR 9)
+
+abbrev pub moveKeepsLines : Parts
+moveKeepsLines = record {
+  accesses = userAccess;
+  maps = calls.mapPage;
+  unmaps = calls.unmap;
+  protects = calls.protect;
+  moves = λ s b page new. storeKept b (calls.movePage s b page new);
+}
+
+-- the page is moved to page 0x300001, of segment 3072, and the process still loads its 50 under the old name
+abbrev pub MoveBreaks : Type 0
+MoveBreaks =
+    Breaks moveKeepsLines (opening (supervisor (move 0x200000 0x300001) ∷ load 0 3 ∷ [])) (opened (gets 0 0 ∷ gets 0 50 ∷ [])) (opened (gets 0 0 ∷ gets 8 0 ∷ []))
 
 -- ---- no write-back on eviction
 
@@ -124,12 +150,50 @@ noWriteBack = record {
   maps = calls.mapPage;
   unmaps = calls.unmap;
   protects = calls.protect;
+  moves = calls.movePage;
 }
 
 -- a load from the other page, name 0x30000000, place 0 too, pushes the 50 out, and it is lost
 abbrev pub NoWriteBackBreaks : Type 0
 NoWriteBackBreaks =
     Breaks noWriteBack (opening (load 0 0x400003 ∷ load 0 3 ∷ [])) (opened (gets 0 0 ∷ gets 0 0 ∷ [])) (opened (gets 0 0 ∷ gets 0 50 ∷ []))
+
+-- ---- move that drops the lines as map does, without writing them back (CR 9)
+
+abbrev pub moveLosesLines : Parts
+moveLosesLines = record {
+  accesses = userAccess;
+  maps = calls.mapPage;
+  unmaps = calls.unmap;
+  protects = calls.protect;
+  moves = λ s b page new. memoryKept b (calls.movePage s b page new);
+}
+
+-- the page is moved to page 0x300001. The 50 was in the cache only and is lost: a load at the new page, name 0x30000100, place 0, physical line 256, gets
+-- the zeros of the map
+abbrev pub MoveLosesBreaks : Type 0
+MoveLosesBreaks =
+    Breaks moveLosesLines (opening (supervisor (move 0x200000 0x300001) ∷ load 0 0x401003 ∷ [])) (opened (gets 0 0 ∷ gets 0 0 ∷ [])) (opened (gets 0 0 ∷ gets 0 50 ∷ []))
+
+-- ---- move that fills the frame with zeros, as map does (CR 9)
+
+-- what a call gives, but with the page's frame filled with zeros
+abbrev pub frameZeroed : Shape → Board → ℕ → Outcome → Outcome
+frameZeroed s b page o = outcome (o .answer) (withStore (o .after) (calls.zeroedStore (calls.foundFrame (mappedTo s (b .words) page)) (o .after .store)))
+
+abbrev pub moveCopiesZeros : Parts
+moveCopiesZeros = record {
+  accesses = userAccess;
+  maps = calls.mapPage;
+  unmaps = calls.unmap;
+  protects = calls.protect;
+  moves = λ s b page new. frameZeroed s b page (calls.movePage s b page new);
+}
+
+-- the 50 is written back and then lost
+abbrev pub MoveZerosBreaks : Type 0
+MoveZerosBreaks =
+    Breaks moveCopiesZeros (opening (supervisor (move 0x200000 0x300001) ∷ load 0 0x401003 ∷ [])) (opened (gets 0 0 ∷ gets 0 0 ∷ [])) (opened (gets 0 0 ∷ gets 0 50 ∷ []))
 
 -- ---- comparing only part of a name, so two segments with equal low bits match
 
@@ -154,6 +218,7 @@ partCompared = record {
   maps = calls.mapPage;
   unmaps = calls.unmap;
   protects = calls.protect;
+  moves = calls.movePage;
 }
 
 -- a load from the other page, whose line is not held, gets the 50 of the first
@@ -174,6 +239,7 @@ mapKeepsLines = record {
   maps = λ s b page frame write. recordsKept b (calls.mapPage s b page frame write);
   unmaps = calls.unmap;
   protects = calls.protect;
+  moves = calls.movePage;
 }
 
 -- the supervisor stores 7 at 0 of frame 1 under prefix 1: name 0x10000100, place 0, physical line 256. Then the frame is mapped to page 0x200000, and
