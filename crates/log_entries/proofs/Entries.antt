@@ -9,7 +9,7 @@ use lib.ListN.{length, getD, take, length-append}
 use lib.Seq.{length-take-le}
 use borrow.Author.Tests.{eq-eqb, ne-eqb, le-leb, lt-leb}
 use Rattle.log_numbers.specs.Reasons.{reasonKind, reasonField}
-use Rattle.log_entries.specs.Entries.{Entered, growing, whole, improper, fieldsOf, isKind, isWhole, most, numberIn, fiveOf, wordsOf}
+use Rattle.log_entries.specs.Entries.{Entered, growing, whole, improper, fieldsByKind, fieldsOf, isKind, isWhole, most, numberIn, fiveOf, wordsOf}
 use Rattle.log_entries.specs.Enters.{enteredOf, EnteredFits}
 use Rattle.log_entries.specs.declared.Entered as declared
 use Rattle.log_entries.specs.declared.Entry.{Entry}
@@ -49,11 +49,11 @@ pub kind-fields : (n : ℕ) (e : Entry) → wordsOf e ≡ n ∷ 0 ∷ 0 ∷ 0 �
 kind-fields n e w = ap (λ (l : List ℕ). length (fieldsOf (getD l 0 0))) (sym w)
 
 module _ (n : ℕ) where
-  pub kind-unknown : (not (eqb n 0) && ltb n 12) ≡ false → improper reasonKind ≡ numberIn [] n
+  pub kind-unknown : (not (eqb n 0) && ltb n (length fieldsByKind)) ≡ false → improper reasonKind ≡ numberIn [] n
   unfolding numberIn isKind
   kind-unknown x = rw x
 
-  module _ (x : (not (eqb n 0) && ltb n 12) ≡ true) (words : List ℕ) (w : words ≡ n ∷ 0 ∷ 0 ∷ 0 ∷ 0 ∷ 0 ∷ []) (count : ℕ) (c : count ≡ length (fieldsOf n)) where
+  module _ (x : (not (eqb n 0) && ltb n (length fieldsByKind)) ≡ true) (words : List ℕ) (w : words ≡ n ∷ 0 ∷ 0 ∷ 0 ∷ 0 ∷ 0 ∷ []) (count : ℕ) (c : count ≡ length (fieldsOf n)) where
     pub kind-whole : count ≡ 0 → whole (take 1 words) ≡ numberIn [] n
     unfolding numberIn isKind isWhole
     kind-whole z = let t : eqb 0 (length (fieldsOf n)) ≡ true = eq-eqb 0 (length (fieldsOf n)) (omega (arith, z, c)) in rw (w, x, t)

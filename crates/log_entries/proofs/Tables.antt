@@ -17,36 +17,39 @@ use Rattle.log_entries.specs.declared.Entry.{Entry}
 
 -- ---- how many fields a kind has
 
+abbrev pub kinds : ℕ
+kinds = length fieldsByKind
+
 abbrev counts : List ℕ
-counts = 4 ∷ 5 ∷ 4 ∷ 4 ∷ 2 ∷ 3 ∷ 1 ∷ 2 ∷ 0 ∷ 1 ∷ 1 ∷ 0 ∷ []
+counts = 4 ∷ 5 ∷ 4 ∷ 4 ∷ 2 ∷ 3 ∷ 1 ∷ 2 ∷ 0 ∷ 1 ∷ 1 ∷ 0 ∷ 2 ∷ []
 
 pub counts-right : (k : ℕ) → getD counts k 0 ≡ length (fieldsOf k)
 unfolding fieldsOf
 counts-right k = List·getD-map length fieldsByKind k []
 
-pub counts-past : (k : ℕ) → 11 < k → 0 ≡ length (fieldsOf k)
+pub counts-past : (k : ℕ) → kinds ≤ k → 0 ≡ length (fieldsOf k)
 unfolding fieldsOf
 counts-past k h = sym (ap length (List·getD-eq-default fieldsByKind [] {n = k} h))
 
 countsFew : ℕ → Bool
 countsFew k = leb (getD counts k 0) 5
 
-counts-few : everyBelow 12 countsFew ≡ true
+counts-few : everyBelow kinds countsFew ≡ true
 unfolding everyBelow countsFew
 counts-few = refl
 
 -- a kind that has fields is one of the table
-pub kind-known : (k i : ℕ) → 1 ≤ i → i ≤ length (fieldsOf k) → k < 12
+pub kind-known : (k i : ℕ) → 1 ≤ i → i ≤ length (fieldsOf k) → k < kinds
 kind-known k i p q = lt-of-not-le (λ h. absurd (omega (arith, counts-past k h, p, q)))
 
 -- none has more than five
 pub fields-few : (k : ℕ) → length (fieldsOf k) ≤ 5
 unfolding countsFew
-fields-few k = go (leb 12 k) refl
+fields-few k = go (leb kinds k) refl
   where
-    go : (t : Bool) → leb 12 k ≡ t → length (fieldsOf k) ≤ 5
-    go true e = omega (arith, counts-past k (leb-true 12 k e))
-    go false e = omega (arith, counts-right k, leb-true (getD counts k 0) 5 (every-below 12 countsFew counts-few k (leb-false 12 k e)))
+    go : (t : Bool) → leb kinds k ≡ t → length (fieldsOf k) ≤ 5
+    go true e = omega (arith, counts-past k (leb-true kinds k e))
+    go false e = omega (arith, counts-right k, leb-true (getD counts k 0) 5 (every-below kinds countsFew counts-few k (leb-false kinds k e)))
 
 pub kind-few : (k i : ℕ) → i ≤ length (fieldsOf k) → i ≤ 5
 kind-few k i q = omega (arith, q, fields-few k)
@@ -56,7 +59,7 @@ kind-few k i q = omega (arith, q, fields-few k)
 abbrev codes : List ℕ
 codes =
     1 ∷ 1 ∷ 1 ∷ 1 ∷ 0 ∷ 1 ∷ 2 ∷ 3 ∷ 3 ∷ 5 ∷ 2 ∷ 3 ∷ 1 ∷ 4 ∷ 0 ∷ 1 ∷ 1 ∷ 1 ∷ 2 ∷ 0 ∷ 1 ∷ 1 ∷ 0 ∷ 0 ∷ 0 ∷ 1 ∷ 1 ∷ 2 ∷ 0 ∷ 0
-    ∷ 1 ∷ 0 ∷ 0 ∷ 0 ∷ 0 ∷ 1 ∷ 2 ∷ 0 ∷ 0 ∷ 0 ∷ 0 ∷ 0 ∷ 0 ∷ 0 ∷ 0 ∷ 1 ∷ 0 ∷ 0 ∷ 0 ∷ 0 ∷ 1 ∷ 0 ∷ 0 ∷ 0 ∷ 0 ∷ 0 ∷ 0 ∷ 0 ∷ 0 ∷ 0 ∷ []
+    ∷ 1 ∷ 0 ∷ 0 ∷ 0 ∷ 0 ∷ 1 ∷ 2 ∷ 0 ∷ 0 ∷ 0 ∷ 0 ∷ 0 ∷ 0 ∷ 0 ∷ 0 ∷ 1 ∷ 0 ∷ 0 ∷ 0 ∷ 0 ∷ 1 ∷ 0 ∷ 0 ∷ 0 ∷ 0 ∷ 0 ∷ 0 ∷ 0 ∷ 0 ∷ 0 ∷ 1 ∷ 1 ∷ 0 ∷ 0 ∷ 0 ∷ []
 
 -- with a value's code, the flag's field is behind
 abbrev valueAfter : ℕ → ℕ → Bool
@@ -65,14 +68,14 @@ valueAfter c i = cond (eqb c 4) (leb 1 i) (cond (eqb c 5) (leb 2 i) (leb c 5))
 codeRight : ℕ → ℕ → Bool
 codeRight k i = eqb (getD codes (5 * k + i) 0) (codeOf (getD (fieldsOf k) i none))
 
-codes-right : everyBelow 12 (λ k. everyBelow 5 (codeRight k)) ≡ true
+codes-right : everyBelow kinds (λ k. everyBelow 5 (codeRight k)) ≡ true
 unfolding everyBelow codeRight fieldsOf codeOf
 codes-right = refl
 
-pub code-at : (k i : ℕ) → k < 12 → 1 ≤ i → i ≤ 5 → getD codes (5 * k + i - 1) 0 ≡ codeOf (getD (fieldsOf k) (i - 1) none)
+pub code-at : (k i : ℕ) → k < kinds → 1 ≤ i → i ≤ 5 → getD codes (5 * k + i - 1) 0 ≡ codeOf (getD (fieldsOf k) (i - 1) none)
 unfolding codeRight
 code-at k i h p q =
-    let r = every-below 5 (codeRight k) (every-below 12 (λ x. everyBelow 5 (codeRight x)) codes-right k h) (i - 1) (omega arith) in
+    let r = every-below 5 (codeRight k) (every-below kinds (λ x. everyBelow 5 (codeRight x)) codes-right k h) (i - 1) (omega arith) in
     let d : 5 * k + i - 1 ≡ 5 * k + (i - 1) = omega arith in
     rw d (eqb-true _ _ r)
 
@@ -80,7 +83,7 @@ code-at k i h p q =
 flagBefore : ℕ → ℕ → Bool
 flagBefore k i = valueAfter (codeOf (getD (fieldsOf k) i none)) i
 
-flags-before : everyBelow 12 (λ k. everyBelow 5 (flagBefore k)) ≡ true
+flags-before : everyBelow kinds (λ k. everyBelow 5 (flagBefore k)) ≡ true
 unfolding everyBelow flagBefore fieldsOf codeOf
 flags-before = refl
 
@@ -99,7 +102,7 @@ pub by-none : (e : Entry) (c : ℕ) → (c ≡ 1 → ⊥) → (c ≡ 2 → ⊥) 
 by-none e c n₁ n₂ n₃ n₄ n₅ = rw (ne-eqb c 1 n₁, ne-eqb c 2 n₂, ne-eqb c 3 n₃, ne-eqb c 4 n₄, ne-eqb c 5 n₅)
 
 -- the kind and field number that code asks
-module _ (e : Entry) (i : ℕ) (h : e .kind < 12) (p : 1 ≤ i) (q : i ≤ 5) where
+module _ (e : Entry) (i : ℕ) (h : e .kind < kinds) (p : 1 ≤ i) (q : i ≤ 5) where
   abbrev field : Field
   field = getD (fieldsOf (e .kind)) (i - 1) none
 
@@ -113,7 +116,7 @@ module _ (e : Entry) (i : ℕ) (h : e .kind < 12) (p : 1 ≤ i) (q : i ≤ 5) wh
   unfolding flagBefore
   flag-before f g =
       sym (ap (λ (x : Field). valueAfter (codeOf x) (i - 1)) g)
-      ∙ every-below 5 (flagBefore (e .kind)) (every-below 12 (λ x. everyBelow 5 (flagBefore x)) flags-before (e .kind) h) (i - 1) (omega arith)
+      ∙ every-below 5 (flagBefore (e .kind)) (every-below kinds (λ x. everyBelow 5 (flagBefore x)) flags-before (e .kind) h) (i - 1) (omega arith)
 
   coded : (f : Field) → field ≡ f → byCode e (codeOf f) ≡ mostOf before f
   unfolding codeOf mostOf

@@ -1,5 +1,5 @@
 -- CR 1: "The log opens with F, U, P, L. Entries: kind 1 user access, 2 supervisor access, 3 attach, 4 detach, 5 map, 6 unmap, 7 protect, 8 flush all,
--- 9 tag, 10 load-and-map, 11 drop tag, then the fields in the order of 01; load is 0 and store 1."
+-- 9 tag, 10 load-and-map, 11 drop tag, then the fields in the order of 01; load is 0 and store 1." CR 9: "Log kind 12", move.
 use Prim.Native.Nat.{ℕ, _-_, _^_}
 use mathlib.Core.Bool.{Bool, not, _&&_, cond}
 use mathlib.Core.List.{List, [], _∷_, _++_}
@@ -34,6 +34,7 @@ fieldsByKind =
     ∷ (anyNumber ∷ [])  -- tag: line name
     ∷ (anyNumber ∷ [])  -- load-and-map: physical line
     ∷ []  -- drop tag
+    ∷ (anyNumber ∷ anyNumber ∷ [])  -- move: page, new page
     ∷ []
 
 unfoldable pub fieldsOf : ℕ → List Field

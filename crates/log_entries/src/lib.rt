@@ -1,4 +1,4 @@
-// The entries of a log: kinds, their fields, what a field may be at most; an entry number by number (CR 1).
+// The entries of a log: kinds, their fields, what a field may be at most; an entry number by number (CR 1; CR 9: move).
 ghost use mathlib.Core.Path.{_≡_};
 ghost use Prim.Native.Nat.{suc, _-_, _^_, _≤_, _<_};
 ghost use mathlib.Core.Bool.{cond};
@@ -35,8 +35,10 @@ pub const LOAD_AND_MAP: u64 = 10;
 
 pub const DROP_TAG: u64 = 11;
 
+pub const MOVE: u64 = 12;
+
 // They end here.
-pub const KINDS: u64 = 12;
+pub const KINDS: u64 = 13;
 
 // No kind has more fields.
 pub const MOST_FIELDS: usize = 5;
@@ -59,7 +61,7 @@ const BY_FIRST: u8 = 4;
 const BY_SECOND: u8 = 5;
 
 // The five fields of each kind, by rising kind.
-const FIELDS: [u8; 60] = [
+const FIELDS: [u8; 65] = [
     // the header: F, U, P, L
     ANY,
     ANY,
@@ -132,10 +134,16 @@ const FIELDS: [u8; 60] = [
     NO,
     NO,
     NO,
+    // move: page, new page
+    ANY,
+    ANY,
+    NO,
+    NO,
+    NO,
 ];
 
 // How many fields each kind has.
-const COUNTS: [usize; 12] = [4, 5, 4, 4, 2, 3, 1, 2, 0, 1, 1, 0];
+const COUNTS: [usize; 13] = [4, 5, 4, 4, 2, 3, 1, 2, 0, 1, 1, 0, 2];
 
 const ANY_MOST: u64 = u64::MAX;
 

@@ -15,7 +15,7 @@ use Rattle.board.specs.declared.Shape.{Shape}
 use Rattle.board.proofs.Bools.{clash, and-right}
 use Rattle.stores.specs.declared.Access.{Access}
 use Rattle.log_entries.specs.Entries.{flag, none, fieldsByKind, fieldsOf, isKind, most, mostOf}
-use Rattle.promises.specs.Runs.{Call, user, supervisor, access, attach, detach, map, unmap, protect, flushAll, tag, loadAndMap, dropTag}
+use Rattle.promises.specs.Runs.{Call, user, supervisor, access, attach, detach, map, unmap, protect, move, flushAll, tag, loadAndMap, dropTag}
 use Rattle.log_promises.specs.Calls.{Loggable, entryOf, headerOf, fieldsFit, entryFits}
 use Rattle.log_promises.proofs.Fits.{fit-each}
 
@@ -40,6 +40,7 @@ callsWith l =
     ∷ supervisor (tag (getD l 0 0))
     ∷ supervisor (loadAndMap (getD l 0 0))
     ∷ supervisor dropTag
+    ∷ supervisor (move (getD l 0 0) (getD l 1 0))
     ∷ []
 
 -- the call of an entry
@@ -71,6 +72,7 @@ call-entry (supervisor flushAll) f = entry refl refl f
 call-entry (supervisor (tag name)) f = entry refl refl f
 call-entry (supervisor (loadAndMap line)) f = entry refl refl f
 call-entry (supervisor dropTag) f = entry refl refl f
+call-entry (supervisor (move page new)) f = entry refl refl f
 
 -- a bit says what it is of
 yes-bit : (b : Bool) → isYes (bit b) ≡ b
@@ -91,6 +93,7 @@ call-back (supervisor flushAll) = refl
 call-back (supervisor (tag name)) = refl
 call-back (supervisor (loadAndMap line)) = refl
 call-back (supervisor dropTag) = refl
+call-back (supervisor (move page new)) = refl
 
 -- and a header its board
 pub shape-back : (s : Shape) → shapeOf (s .ways) (headerOf s) ≡ s
@@ -151,7 +154,7 @@ OfKind kind = Each (length (fieldsOf kind)) (IsOf kind)
 of-kinds : (k : ℕ) → suc k < length fieldsByKind → OfKind (suc k)
 unfolding entryOf fieldsOf
 of-kinds k h =
-    by-cases 11 (λ j. OfKind (suc j)) k (omega (arith, h))
+    by-cases 12 (λ j. OfKind (suc j)) k (omega (arith, h))
     (λ process store width address value f. rw (flag-back 1 1 _ f refl (omega arith)))
     (λ store width address value f. rw (flag-back 2 0 _ f refl (omega arith)))
     (λ process slot segment write f. rw (flag-back 3 3 _ f refl (omega arith)))
@@ -163,6 +166,7 @@ of-kinds k h =
     (λ name f. refl)
     (λ line f. refl)
     (λ f. refl)
+    (λ page new f. refl)
 
 -- a whole entry is its call's
 pub entry-back : {e : List ℕ} → IsEntry e → entryOf (callOf e) ≡ e

@@ -1,4 +1,4 @@
--- CR 1: a log of three calls and logs that are refused, computed; what is promised of the log, by the promises.
+-- CR 1: a log of four calls and logs that are refused, computed; what is promised of the log, by the promises.
 use Prim.Native.Nat.{ℕ, _≤_}
 use mathlib.Core.Path.{_≡_, refl}
 use mathlib.Core.List.{List}
@@ -25,7 +25,7 @@ board-fits = refl
 -- and each call
 all-fit : AllLoggable calls
 unfolding entryOf entryFits fieldsFit fieldsOf most mostOf
-all-fit = also refl (also refl (also refl none))
+all-fit = also refl (also refl (also refl (also refl none)))
 
 -- the log's bytes
 log-is : logOf board calls ≡ bytes

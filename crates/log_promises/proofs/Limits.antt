@@ -12,7 +12,7 @@ use Rattle.board.specs.declared.Shape.{Shape}
 use Rattle.board.proofs.Bools.{clash}
 use Rattle.stores.specs.declared.Access.{Access}
 use Rattle.log_entries.specs.Entries.{fieldsOf, most, mostOf}
-use Rattle.promises.specs.Runs.{Call, user, supervisor, access, attach, detach, map, unmap, protect, flushAll, tag, loadAndMap, dropTag}
+use Rattle.promises.specs.Runs.{Call, user, supervisor, access, attach, detach, map, unmap, protect, move, flushAll, tag, loadAndMap, dropTag}
 use Rattle.log_promises.specs.Calls.{Loggable, LoggableShape, entryOf, headerOf, fieldsFit, entryFits}
 use Rattle.log_promises.specs.Limits.{AccessFits, Fits, LimitsAreRight}
 use Rattle.log_promises.proofs.Fits.{fit-each}
@@ -89,6 +89,8 @@ call-holds (supervisor flushAll) f = fit-none 8 []
 call-holds (supervisor (tag name)) n = fit-also 9 name [] [] (omega (arith, n)) (fit-none 9 _)
 call-holds (supervisor (loadAndMap line)) l = fit-also 10 line [] [] (omega (arith, l)) (fit-none 10 _)
 call-holds (supervisor dropTag) f = fit-none 11 []
+call-holds (supervisor (move page new)) (p, n) =
+    fit-also 12 page [] _ (omega (arith, p)) (fit-also 12 new (page ∷ []) [] (omega (arith, n)) (fit-none 12 _))
 
 -- and only such a call is
 call-fits : (k : Call) → Loggable k → Fits k
@@ -115,6 +117,9 @@ call-fits (supervisor flushAll) f = tt
 call-fits (supervisor (tag name)) f = omega (arith, fit-each 9 [] (name ∷ []) 0 f (omega arith))
 call-fits (supervisor (loadAndMap line)) f = omega (arith, fit-each 10 [] (line ∷ []) 0 f (omega arith))
 call-fits (supervisor dropTag) f = tt
+call-fits (supervisor (move page new)) f =
+    let l : List ℕ = page ∷ new ∷ [] in
+    (omega (arith, fit-each 12 [] l 0 f (omega arith)), omega (arith, fit-each 12 [] l 1 f (omega arith)))
 
 -- a header of numbers that a log can hold
 shape-holds : (s : Shape) → s .frames < 2 ^ 64 → s .uncached < 2 ^ 64 → s .processes < 2 ^ 64 → s .lines < 2 ^ 64 → LoggableShape s

@@ -19,7 +19,7 @@ use Rattle.log_numbers.specs.Reasons.{reasonNone, reasonMisfit, reasonKind, rea
 use Rattle.log_entries.specs.Entries.{none, fieldsByKind, fieldsOf, mostOf, most, fiveOf, wordsOf, sixOf}
 use Rattle.log_entries.specs.declared.Entry.{Entry}
 use Rattle.log_writer.specs.Writing.{firstWrong, numbersOf, entryBytes, wrote, Written, written, byField, writeEntry}
-use Rattle.promises.specs.Runs.{Call, user, supervisor, access, attach, detach, map, unmap, protect, flushAll, tag, loadAndMap, dropTag}
+use Rattle.promises.specs.Runs.{Call, user, supervisor, access, attach, detach, map, unmap, protect, move, flushAll, tag, loadAndMap, dropTag}
 use Rattle.log_promises.specs.Calls.{entryOf, headerOf, fieldsFit, entryFits, headerBytes}
 use Rattle.log_promises.specs.Writer.{Holds, call, header, WrongField, WriterIsRight}
 
@@ -142,6 +142,7 @@ call-shaped (supervisor flushAll) = shaped refl refl refl refl
 call-shaped (supervisor (tag name)) = shaped refl refl refl refl
 call-shaped (supervisor (loadAndMap line)) = shaped refl refl refl refl
 call-shaped (supervisor dropTag) = shaped refl refl refl refl
+call-shaped (supervisor (move page new)) = shaped refl refl refl refl
 
 -- and so is a header, without its kind
 header-shaped : (s : Shape) → Shaped (headerOf s) (drop 1 (headerOf s))
@@ -290,7 +291,8 @@ module _ (a b c d f : ℕ) where
   split-holds (suc (suc (suc (suc (suc (suc (suc (suc (suc zero))))))))) l s = call (supervisor (tag a)) (s .fits) (s .words)
   split-holds (suc (suc (suc (suc (suc (suc (suc (suc (suc (suc zero)))))))))) l s = call (supervisor (loadAndMap a)) (s .fits) (s .words)
   split-holds (suc (suc (suc (suc (suc (suc (suc (suc (suc (suc (suc zero))))))))))) l s = call (supervisor dropTag) (s .fits) (s .words)
-  split-holds (suc (suc (suc (suc (suc (suc (suc (suc (suc (suc (suc (suc n)))))))))))) l s = absurd (omega arith)
+  split-holds (suc (suc (suc (suc (suc (suc (suc (suc (suc (suc (suc (suc zero)))))))))))) l s = call (supervisor (move a b)) (s .fits) (s .words)
+  split-holds (suc (suc (suc (suc (suc (suc (suc (suc (suc (suc (suc (suc (suc n))))))))))))) l s = absurd (omega arith)
 
 -- words that aren't refused are those of a call or of a header, and there is room
 ways-hold : {e : Entry} {bytes : List ℕ} {x : Written} → Ways e bytes x → x .wrote .reason ≡ reasonNone → Holds e × (entryBytes ≤ length bytes)

@@ -1,5 +1,5 @@
 -- The calls of a run as entries of a log (CR 1): "kind 1 user access, 2 supervisor access, 3 attach, 4 detach, 5 map, 6 unmap, 7 protect, 8 flush all,
--- 9 tag, 10 load-and-map, 11 drop tag, then the fields in the order of 01; load is 0 and store 1".
+-- 9 tag, 10 load-and-map, 11 drop tag, then the fields in the order of 01; load is 0 and store 1"; 12 move (CR 9): page, new page.
 use Prim.Native.Nat.{ℕ}
 use mathlib.Core.Path.{_≡_}
 use mathlib.Core.Bool.{Bool, true, _&&_}
@@ -9,7 +9,7 @@ use Rattle.board.specs.Lists.{bit}
 use Rattle.board.specs.declared.Shape.{Shape}
 use Rattle.log_numbers.specs.Numbers.{bytesOf}
 use Rattle.log_entries.specs.Entries.{most}
-use Rattle.promises.specs.Runs.{Call, user, supervisor, access, attach, detach, map, unmap, protect, flushAll, tag, loadAndMap, dropTag}
+use Rattle.promises.specs.Runs.{Call, user, supervisor, access, attach, detach, map, unmap, protect, move, flushAll, tag, loadAndMap, dropTag}
 
 -- a call as an entry: its kind, then its fields
 unfoldable pub entryOf : Call → List ℕ
@@ -24,6 +24,7 @@ entryOf (supervisor flushAll) = 8 ∷ []
 entryOf (supervisor (tag name)) = 9 ∷ name ∷ []
 entryOf (supervisor (loadAndMap line)) = 10 ∷ line ∷ []
 entryOf (supervisor dropTag) = 11 ∷ []
+entryOf (supervisor (move page new)) = 12 ∷ page ∷ new ∷ []
 
 -- the header as an entry: F, U, P, L
 unfoldable pub headerOf : Shape → List ℕ

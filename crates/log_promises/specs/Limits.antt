@@ -5,7 +5,7 @@ use mathlib.Core.Path.{_≡_}
 use mathlib.Core.Bool.{false}
 use Rattle.board.specs.declared.Shape.{Shape}
 use Rattle.stores.specs.declared.Access.{Access}
-use Rattle.promises.specs.Runs.{Call, user, supervisor, access, attach, detach, map, unmap, protect, flushAll, tag, loadAndMap, dropTag}
+use Rattle.promises.specs.Runs.{Call, user, supervisor, access, attach, detach, map, unmap, protect, move, flushAll, tag, loadAndMap, dropTag}
 use Rattle.log_promises.specs.Calls.{Loggable, LoggableShape}
 
 -- a store's value is below 2^32; a load has none
@@ -26,6 +26,7 @@ Fits (supervisor flushAll) = Unit
 Fits (supervisor (tag name)) = name < 2 ^ 64
 Fits (supervisor (loadAndMap line)) = line < 2 ^ 64
 Fits (supervisor dropTag) = Unit
+Fits (supervisor (move page new)) = (page < 2 ^ 64) × (new < 2 ^ 64)
 
 pub record LimitsAreRight : Type 1 where
   -- a log can hold what fits

@@ -10,7 +10,7 @@ use Rattle.board.specs.Lists.{splice}
 use Rattle.board.proofs.Lists.{length-splice}
 use Rattle.log_numbers.specs.Numbers.{groupsOf, groupsBefore, bytesOf}
 use Rattle.log_numbers.proofs.Groups.{groups-room}
-use Rattle.log_entries.specs.Entries.{fieldsOf, most, fiveOf}
+use Rattle.log_entries.specs.Entries.{fieldsByKind, fieldsOf, most, fiveOf}
 use Rattle.log_entries.specs.declared.Entry.{Entry}
 use Rattle.log_writer.specs.Writing.{firstWrong, numbersOf, entryBytes, wrote, written, byField, writeEntry}
 use Rattle.log_writer.specs.declared.Wrote.{Wrote}
@@ -122,14 +122,14 @@ module _ (e : Entry) (l : List ℕ) (w : Wrote) (reason amount : ℕ) (is : (w .
   entry-short r a h = is-wrote l ∙ rw (lt-ltb (length l) entryBytes h, r, a)
 
   module _ (room : entryBytes ≤ length l) where
-    pub entry-unknown : reason ≡ 5 → amount ≡ 0 → 12 ≤ e .kind → written w l ≡ writeEntry e l
+    pub entry-unknown : reason ≡ 5 → amount ≡ 0 → length fieldsByKind ≤ e .kind → written w l ≡ writeEntry e l
     unfolding writeEntry
-    entry-unknown r a h = is-wrote l ∙ rw (le-ltb (length l) entryBytes room, le-ltb (e .kind) 12 h, r, a)
+    entry-unknown r a h = is-wrote l ∙ rw (le-ltb (length l) entryBytes room, le-ltb (e .kind) (length fieldsByKind) h, r, a)
 
-    module _ (known : e .kind < 12) (i : ℕ) (first : i ≡ firstWrong (e .kind) [] (fiveOf e)) where
+    module _ (known : e .kind < length fieldsByKind) (i : ℕ) (first : i ≡ firstWrong (e .kind) [] (fiveOf e)) where
       pub entry-wrong : reason ≡ 6 → amount ≡ i → (i ≡ 0 → ⊥) → written w l ≡ writeEntry e l
       unfolding writeEntry byField
-      entry-wrong r a h = is-wrote l ∙ rw (le-ltb (length l) entryBytes room, lt-ltb (e .kind) 12 known, sym first, r, a) (go i h)
+      entry-wrong r a h = is-wrote l ∙ rw (le-ltb (length l) entryBytes room, lt-ltb (e .kind) (length fieldsByKind) known, sym first, r, a) (go i h)
         where
           go : (j : ℕ) → (j ≡ 0 → ⊥) → written (wrote 6 j) l ≡ byField j (e .kind) (fiveOf e) l
           go zero z = absurd (z refl)
@@ -138,4 +138,4 @@ module _ (e : Entry) (l : List ℕ) (w : Wrote) (reason amount : ℕ) (is : (w .
       pub entry-written : (l₁ : List ℕ) → reason ≡ 0 → i ≡ 0
           → (l₁ ≡ splice l 0 (bytesOf (numbersOf (e .kind) (fiveOf e)))) × (amount ≡ length (bytesOf (numbersOf (e .kind) (fiveOf e)))) → written w l₁ ≡ writeEntry e l
       unfolding writeEntry byField
-      entry-written l₁ r z p = is-wrote l₁ ∙ rw (le-ltb (length l) entryBytes room, lt-ltb (e .kind) 12 known, sym first, z, r, p .0, p .1)
+      entry-written l₁ r z p = is-wrote l₁ ∙ rw (le-ltb (length l) entryBytes room, lt-ltb (e .kind) (length fieldsByKind) known, sym first, z, r, p .0, p .1)

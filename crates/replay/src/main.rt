@@ -24,6 +24,7 @@ use log_entries::Entry;
 use log_entries::FLUSH_ALL;
 use log_entries::HEADER;
 use log_entries::MAP;
+use log_entries::MOVE;
 use log_entries::PROTECT;
 use log_entries::SUPERVISOR_ACCESS;
 use log_entries::TAG;
@@ -156,7 +157,7 @@ fn change_slot_or_tag(
     tag_calls::drop_tag(s, slots, words, records, cache, memory, tag)
 }
 
-// Map, unmap, protect and flush all: many lines are visited.
+// Map, unmap, protect, move and flush all: many lines are visited.
 fn change_pages(
     s: Shape,
     slots: &[u32],
@@ -198,6 +199,19 @@ fn change_pages(
             &none,
             e.first,
             write,
+        );
+    }
+    if e.kind == MOVE {
+        return move_call::move_page(
+            s,
+            slots,
+            words,
+            records,
+            cache,
+            memory,
+            &none,
+            e.first,
+            e.second,
         );
     }
     line_calls::flush_all(s, slots, words, records, cache, memory, &none)
@@ -271,7 +285,7 @@ fn call(
         ATTACH | DETACH | TAG | DROP_TAG => {
             change_slot_or_tag(s, slots, words, records, cache, memory, tag, e)
         }
-        MAP | UNMAP | PROTECT | FLUSH_ALL => {
+        MAP | UNMAP | PROTECT | FLUSH_ALL | MOVE => {
             let a = change_pages(s, slots, words, records, cache, memory, e);
             kept(a, tag)
         }
