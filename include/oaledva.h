@@ -39,6 +39,8 @@
  *     do not pin U, and a call that brings another U than the board's, up to F, is not refused. Example: with U = 0 a page is
  *     mapped to frame 0 and its line is held; then a load with U = 1 finds the line and is answered 0, where a machine without
  *     a cache sees no frame from 1 up with that page, and says 8. Bring the same U in every call, as a board's functions do.
+ * One process apart from the others asks a third: a page that is moved into a segment which the process holds at any moment of
+ * the run, even if only later, has the same bytes when it is moved, whatever the others did; or it comes from such a segment.
  */
 #ifndef OALEDVA_H
 #define OALEDVA_H
@@ -125,7 +127,7 @@ enum {
     OALEDVA_NOT_MAPPED = 8,      /* the page is not mapped (of an access: and the line not held) */
     OALEDVA_PAGE_READ_ONLY = 9,  /* user store, and the page is read-only */
     OALEDVA_FRAME_IN_USE = 10,   /* map, or an access under prefix 1: the frame's word is not 0 */
-    OALEDVA_MAPPED_ALREADY = 11, /* map: the page is mapped already */
+    OALEDVA_MAPPED_ALREADY = 11, /* map: the page is mapped already; move: the new page is */
     OALEDVA_OUTSIDE = 12,        /* supervisor access: page table region, beyond memory, prefix 0 from U up, prefix 1
                                     below U */
     OALEDVA_OTHER_LINE = 13      /* load-and-map: not the physical line to which the tag is mapped */
@@ -366,6 +368,19 @@ OALEDVA_MUST_USE oaledva_answer oaledva_protect(
     const uint8_t *cache, size_t cache_length,
     uint8_t *memory, size_t memory_length,
     uint64_t page, oaledva_permission permission);
+
+/* Moves a page, to hand it over: its frame gets the new page, with the same write bit, and keeps its bytes; nothing is copied.
+ * First the changed lines of both pages are written back, by rising place, and their lines dropped: at most 512 records are
+ * visited. A pending tag doesn't refuse it, and stays pending. Refused by 1; 2, either page is not ordinary; 8, the old one is
+ * not mapped; and 11, the new one is mapped already. So a page is never moved to itself: 11, or 8 where it isn't mapped. */
+OALEDVA_MUST_USE oaledva_answer oaledva_move(
+    OALEDVA_SHAPE_ARGS,
+    const uint32_t *slots, size_t slots_length,
+    uint64_t *words, size_t words_length,
+    uint64_t *records, size_t records_length,
+    const uint8_t *cache, size_t cache_length,
+    uint8_t *memory, size_t memory_length,
+    uint64_t page, uint64_t new_page);
 
 /* Writes back every changed line, by rising place, and drops all lines. Every record is visited. Refused by 1. */
 OALEDVA_MUST_USE oaledva_answer oaledva_flush_all(
@@ -616,6 +631,10 @@ OALEDVA_MUST_USE static inline oaledva_answer oaledva_board_protect(
     return oaledva_protect(OALEDVA_LEND(*b), page, permission);
 }
 
+OALEDVA_MUST_USE static inline oaledva_answer oaledva_board_move(oaledva_board *b, uint64_t page, uint64_t new_page) {
+    return oaledva_move(OALEDVA_LEND(*b), page, new_page);
+}
+
 OALEDVA_MUST_USE static inline oaledva_answer oaledva_board_flush_all(oaledva_board *b) {
     return oaledva_flush_all(OALEDVA_LEND(*b));
 }
@@ -671,7 +690,8 @@ enum {
     OALEDVA_LOG_FLUSH_ALL = 8,         /* none */
     OALEDVA_LOG_TAG = 9,               /* line name */
     OALEDVA_LOG_LOAD_AND_MAP = 10,     /* physical line */
-    OALEDVA_LOG_DROP_TAG = 11          /* none */
+    OALEDVA_LOG_DROP_TAG = 11,         /* none */
+    OALEDVA_LOG_MOVE = 12              /* page, new page */
 };
 
 /* Why a log was refused, or an entry that was to be written; 0 for neither. A log is refused for the first thing that is wrong in
@@ -742,7 +762,7 @@ typedef struct OALEDVA_MUST_USE_TYPE oaledva_log_written {
 #define OALEDVA_LOG_REASON_AT 32
 
 /* Writes an entry of OALEDVA_LOG_ENTRY_WORDS words to the start of a buffer of OALEDVA_LOG_ENTRY_BYTES bytes or more; the bytes
- * behind it stay. Nothing is written of an entry that is refused: by 5, its kind is above 11; by 6, a field is too large, of
+ * behind it stay. Nothing is written of an entry that is refused: by 5, its kind is above 12; by 6, a field is too large, of
  * which the first is told, counted from 1 (one that the kind does not have is too large unless it is 0). By 1: the lengths. */
 OALEDVA_MUST_USE oaledva_log_written oaledva_log_write(
     const uint64_t *entry, size_t entry_length,
@@ -826,6 +846,11 @@ OALEDVA_MUST_USE static inline oaledva_log_entry oaledva_unmap_call(uint64_t pag
 
 OALEDVA_MUST_USE static inline oaledva_log_entry oaledva_protect_call(uint64_t page, oaledva_permission permission) {
     const oaledva_log_entry call = {OALEDVA_LOG_PROTECT, {page, permission.write != 0, 0, 0, 0}};
+    return call;
+}
+
+OALEDVA_MUST_USE static inline oaledva_log_entry oaledva_move_call(uint64_t page, uint64_t new_page) {
+    const oaledva_log_entry call = {OALEDVA_LOG_MOVE, {page, new_page, 0, 0, 0}};
     return call;
 }
 
@@ -966,6 +991,7 @@ static inline oaledva_permission oaledva_log_permission(uint64_t write_bit) {
     case OALEDVA_LOG_TAG: return board##_tag(b, of[0]);                                                            \
     case OALEDVA_LOG_LOAD_AND_MAP: return board##_load_and_map(b, of[0]);                                          \
     case OALEDVA_LOG_DROP_TAG: return board##_drop_tag(b);                                                         \
+    case OALEDVA_LOG_MOVE: return board##_move(b, of[0], of[1]);                                                   \
     }                                                                                                              \
     return refused
 
@@ -991,13 +1017,14 @@ OALEDVA_MUST_USE static inline oaledva_answer oaledva_board_perform(oaledva_boar
  * load-and-map. A use of line a sets row a to 1 and then clears column a to 0. So after[a][b] is 1 where line a was used after
  * line b, and of four lines that were used the one used longest ago has a row of zeros. The line that is pushed out is the
  * lowest whose row has the fewest ones, where any entry but 0 is a one; so it is also with matrices that no run of calls brings
- * about. Nothing else changes a matrix: no refused call, no drop (by map, unmap or flush all), no write-back, no protect, no
- * look, and no load-and-map of a line that is held already. Only accesses, lists of them and load-and-map take it to change it.
+ * about. Nothing else changes a matrix: no refused call, no drop (by map, unmap, move or flush all), no write-back, no protect,
+ * no look, and no load-and-map of a line that is held already. Only accesses, lists of them and load-and-map take it to change
+ * it.
  *
  * Each call has the name of the one above with `sets` in it, takes the same arguments, with `uses` and its length after memory,
  * does what is said there and is refused by the same numbers. Number 1 is given also where L is below 4, or where uses_length,
- * which counts matrices, is not L / 4. Map, unmap and protect visit the four records of each set where there they visit one.
- * oaledva_entry_of_page and the logs are the same for both.
+ * which counts matrices, is not L / 4. Map, unmap, protect and move visit the four records of each set where there they visit
+ * one. oaledva_entry_of_page and the logs are the same for both.
  *
  * An edition belongs to the board, as U does. The buffers do not tell which it is, and calls of the other edition are not
  * refused: they look for lines elsewhere, and what was stored can be lost. The two kinds of board are types of their own, so
@@ -1078,6 +1105,13 @@ OALEDVA_MUST_USE oaledva_answer oaledva_sets_protect(
     uint64_t *records, size_t records_length, const uint8_t *cache, size_t cache_length,
     uint8_t *memory, size_t memory_length, const oaledva_uses *uses, size_t uses_length,
     uint64_t page, oaledva_permission permission);
+
+OALEDVA_MUST_USE oaledva_answer oaledva_sets_move(
+    OALEDVA_SHAPE_ARGS,
+    const uint32_t *slots, size_t slots_length, uint64_t *words, size_t words_length,
+    uint64_t *records, size_t records_length, const uint8_t *cache, size_t cache_length,
+    uint8_t *memory, size_t memory_length, const oaledva_uses *uses, size_t uses_length,
+    uint64_t page, uint64_t new_page);
 
 OALEDVA_MUST_USE oaledva_answer oaledva_sets_flush_all(
     OALEDVA_SHAPE_ARGS,
@@ -1223,6 +1257,11 @@ OALEDVA_MUST_USE static inline oaledva_answer oaledva_sets_board_unmap(oaledva_s
 OALEDVA_MUST_USE static inline oaledva_answer oaledva_sets_board_protect(
     oaledva_sets_board *b, uint64_t page, oaledva_permission permission) {
     return oaledva_sets_protect(OALEDVA_SETS_LEND(*b), page, permission);
+}
+
+OALEDVA_MUST_USE static inline oaledva_answer oaledva_sets_board_move(
+    oaledva_sets_board *b, uint64_t page, uint64_t new_page) {
+    return oaledva_sets_move(OALEDVA_SETS_LEND(*b), page, new_page);
 }
 
 OALEDVA_MUST_USE static inline oaledva_answer oaledva_sets_board_flush_all(oaledva_sets_board *b) {

@@ -178,7 +178,7 @@ fn row(out: &mut impl Write, call: u64, answer: Result<u32, Refusal>, mark: Mark
 /// How many calls there were of each kind, with each answer and with each mark, by number.
 #[derive(Default)]
 struct Summary {
-    kinds: [u64; 12],
+    kinds: [u64; 1 + Kind::ALL.len()],
     answers: [u64; 14],
     marks: [u64; 5],
 }

@@ -358,6 +358,10 @@ calls! {
     fn oaledva_protect / oaledva_sets_protect(
         read slots, write words, write records, read cache, write memory, read uses,
         page: u64, permission: Permission) -> Answer;
+    /// Gives a page's frame, with its bytes, to a new page.
+    fn oaledva_move / oaledva_sets_move(
+        read slots, write words, write records, read cache, write memory, read uses,
+        page: u64, new_page: u64) -> Answer;
     /// Writes back every changed line and drops all.
     fn oaledva_flush_all / oaledva_sets_flush_all(
         read slots, read words, write records, read cache, write memory, read uses) -> Answer;

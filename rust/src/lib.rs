@@ -389,6 +389,14 @@ where
         self.answer(answer).map(drop)
     }
 
+    /// Moves a page, to hand it over: its frame gets the new page, with the same write bit, and keeps its bytes; nothing is
+    /// copied. First the changed lines of both pages are written back, and their lines dropped. At most 512 records are visited,
+    /// or sets. A page is never moved to itself: [`Refusal::MappedAlready`], or [`Refusal::NotMapped`] where it isn't mapped.
+    pub fn move_page(&mut self, page: u64, new_page: u64) -> Result<(), Refusal> {
+        let answer = call!(self, as_mut_ptr, oaledva_move / oaledva_sets_move(page, new_page));
+        self.answer(answer).map(drop)
+    }
+
     /// Writes back every changed line and drops all lines. Every record is visited.
     pub fn flush_all(&mut self) -> Result<(), Refusal> {
         let answer = call!(self, as_mut_ptr, oaledva_flush_all / oaledva_sets_flush_all());

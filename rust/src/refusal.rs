@@ -16,7 +16,7 @@ numbered! {
     NotMapped = 8, "the page is not mapped";
     PageReadOnly = 9, "a user's store, and the page is read-only";
     FrameInUse = 10, "the frame's word is not 0";
-    MappedAlready = 11, "the page is mapped already";
+    MappedAlready = 11, "the page is mapped already (move: the new page)";
     Outside = 12, "the address is in the page table region, beyond memory, prefix 0 from U up or prefix 1 below U";
     OtherLine = 13, "this is not the physical line to which the tag is mapped";
 }

@@ -1,6 +1,6 @@
-// The safe crate beside the hostile test: limits, words, look's parts, values, marks, the load in two parts, both kinds of
-// buffers, entries.
-use oaledva::{entry_of_page, Board, Lent, Mark, Refusal, Shape};
+// The safe crate beside the hostile test: limits, words, look's parts, values, marks, moved pages, the load in two parts, both
+// kinds of buffers, entries.
+use oaledva::{entry_of_page, Board, Edition, Lent, Mark, Refusal, Shape};
 use std::ops::DerefMut;
 use std::panic::catch_unwind;
 
@@ -162,6 +162,84 @@ where
     assert_eq!((board.load(0, 4, 32), board.mark()), (Ok(most), Mark::Hit));
     assert_eq!((board.flush_all(), board.mark()), (Ok(()), Mark::NoAccess));
     assert_eq!((board.load(0, 4, 32), board.mark()), (Ok(most), Mark::Refilled));
+}
+
+/// In both editions: more lines of the page are changed than the cache has, so that some are held and others in memory.
+#[test]
+fn a_moved_page_keeps_its_bytes() {
+    let shape = Shape { lines: 4, ..SHAPE };
+    let (new_page, last) = (PAGE + 1024, 0xFFBF_FFFF); // of segment 2049, and the last ordinary one
+    for mut board in [Board::new(shape).unwrap(), Board::sets_of_four(shape).unwrap()] {
+        board.map(PAGE, 1, true).unwrap();
+        board.map(PAGE + 1, 2, false).unwrap();
+        board.attach(0, 0, 2048, true).unwrap();
+        board.attach(1, 0, 2049, false).unwrap();
+        (0..6).for_each(|line| board.store(0, 4, 16 * line, 50 + line).unwrap());
+        board.tag(PAGE * 256).unwrap();
+        let before = board.clone();
+        for (page, new_page, refusal) in [
+            (PAGE - 1, new_page, Refusal::Range),
+            (last + 1, new_page, Refusal::Range),
+            (PAGE, PAGE - 1, Refusal::Range),
+            (PAGE, last + 1, Refusal::Range),
+            (PAGE, (1 << 32) + PAGE, Refusal::Range),
+            (PAGE + 2, last + 1, Refusal::Range),
+            (PAGE + 2, new_page, Refusal::NotMapped),
+            (PAGE + 2, PAGE + 2, Refusal::NotMapped),
+            (PAGE + 2, PAGE + 1, Refusal::NotMapped),
+            (PAGE, PAGE + 1, Refusal::MappedAlready),
+            (PAGE, PAGE, Refusal::MappedAlready),
+        ] {
+            let refused = (Err(refusal), Mark::NoAccess);
+            assert_eq!((board.move_page(page, new_page), board.mark()), refused, "{page:#x}, {new_page:#x}");
+            assert_eq!(board, before, "{page:#x}, {new_page:#x}");
+        }
+        // A pending tag is not asked, and stays.
+        assert_eq!((board.move_page(PAGE, new_page), board.mark()), (Ok(()), Mark::NoAccess));
+        assert_eq!((board.pending(), board.load_and_map(256)), (Some(PAGE * 256), Err(Refusal::NotMapped)));
+        board.drop_tag().unwrap();
+        assert_eq!((board.words(), board.uses()), (&[0, new_page * 4 + 3, (PAGE + 1) * 4 + 1, 0][..], before.uses()));
+        assert!(board.records().iter().all(|&word| word == 0));
+        for line in 0..6 {
+            assert_eq!(board.memory()[4096 + 16 * line as usize + 3], 50 + line as u8);
+            assert_eq!(board.load(0, 4, 16 * line), Err(Refusal::NotMapped));
+            assert_eq!((board.load(1, 4, 16 * line), board.mark()), (Ok(50 + line), Mark::Refilled));
+        }
+        assert_eq!(board.store(1, 4, 0, 1), Err(Refusal::SlotReadOnly));
+        // A page that is read-only stays so.
+        board.move_page(PAGE + 1, last).unwrap();
+        assert_eq!(board.words()[2], last * 4 + 1);
+    }
+}
+
+/// Lines of a page that is not mapped, which no run of calls leaves: those of the new page are written back and dropped, too.
+#[test]
+fn a_move_takes_the_lines_of_the_new_page() {
+    let (shape, new_page) = (Shape { lines: 4, ..SHAPE }, PAGE + 1);
+    let changed = |page: u64, line: u64, physical: u64| [page * 256 + line, physical * 8 + 7];
+    // The second is beyond memory, so it holds nothing; the last is of another page. They stand right for both editions.
+    let before = [
+        changed(PAGE, 0, 256),
+        changed(new_page, 1, 4 * 256),
+        changed(new_page, 2, 2 * 256 + 5),
+        changed(PAGE + 2, 3, 3 * 256 + 3),
+    ];
+    for edition in [Edition::OnePlace, Edition::SetsOfFour] {
+        let (mut slots, mut words) = (vec![0; shape.slots()], [0, PAGE * 4 + 3, 0, 0]);
+        let (mut records, mut cache, mut memory) = (before.concat(), vec![9; shape.cache()], vec![0; shape.memory()]);
+        let (own, mut uses) = (&mut memory, [[[0; 4]; 4]]);
+        let mut board = match edition {
+            Edition::OnePlace => Lent::over(shape, &mut slots, &mut words, &mut records, &mut cache, own, None),
+            Edition::SetsOfFour => {
+                Lent::over_sets_of_four(shape, &mut slots, &mut words, &mut records, &mut cache, own, &mut uses, None)
+            }
+        };
+        board.move_page(PAGE, new_page).unwrap();
+        assert_eq!((words, uses), ([0, new_page * 4 + 3, 0, 0], [[[0; 4]; 4]]));
+        assert_eq!(records, [[0; 2], before[1], [0; 2], before[3]].concat());
+        let written: Vec<usize> = (0..4 * 256).filter(|line| memory[16 * line] == 9).collect();
+        assert_eq!(written, [256, 2 * 256 + 5]);
+    }
 }
 
 #[test]

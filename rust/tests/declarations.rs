@@ -270,7 +270,7 @@ fn the_source_the_header_and_the_crate_declare_the_same() {
     for piece in ["", "_user", "_list", "_log", "_sets", "_sets_user", "_sets_list"] {
         source.extend(of_rattle(&text(&format!("crates/oaledva{piece}/src/lib.rt"))));
     }
-    assert_eq!(source.len(), 19 + 14);
+    assert_eq!(source.len(), 20 + 15);
     let (header, crates) = (text("include/oaledva.h"), text("rust/src/ffi.rs"));
     let types = types_of_c(&header);
     assert_eq!(
@@ -310,7 +310,7 @@ fn the_editions_differ_in_the_matrices_alone() {
             (name.replacen("oaledva_", "oaledva_sets_", 1), (parameters, result))
         })
         .collect();
-    assert_eq!((expected.len(), sets.into_iter().collect::<Functions>()), (14, expected));
+    assert_eq!((expected.len(), sets.into_iter().collect::<Functions>()), (15, expected));
 }
 
 /// The header's functions over a board, by their heads: name, parameters and result.
@@ -325,7 +325,7 @@ fn over_boards(header: &str, board: &str) -> Vec<String> {
 fn boards_of_both_editions_have_the_same_functions() {
     let header = text("include/oaledva.h");
     let one_place = over_boards(&header, "oaledva_board");
-    assert_eq!(one_place.len(), 20);
+    assert_eq!(one_place.len(), 21);
     let in_sets: Vec<_> = one_place.iter().map(|head| head.replace("oaledva_board", "oaledva_sets_board")).collect();
     assert_eq!(over_boards(&header, "oaledva_sets_board"), in_sets);
 }
@@ -389,7 +389,7 @@ fn kinds_and_reasons_are_the_same() {
     };
     let mut calls = kinds.clone();
     assert_eq!(calls.remove("LOG_HEADER"), Some(0));
-    assert_eq!((calls.len(), reasons.len()), (11, 6));
+    assert_eq!((calls.len(), reasons.len()), (12, 6));
     assert_eq!(calls, in_logs(numbered(&text("rust/src/log/kind.rs"))));
     assert_eq!(reasons, &in_logs(numbered(&text("rust/src/log/reason.rs"))));
     for (name, number) in &calls {
@@ -443,6 +443,7 @@ fn a_changed_declaration_shows() {
     };
     assert_ne!(of_rattle(&source), of_rattle(&changed(&source, "segment: u64", "segment: u32")));
     assert_ne!(of_rattle(&source), of_rattle(&changed(&source, "cache: &mut [u8]", "cache: &[u8]")));
+    assert_ne!(of_rattle(&source), of_rattle(&changed(&source, "    new_page: u64,\n", "")));
     let lists = text("crates/oaledva_list/src/lib.rt");
     assert_ne!(of_rattle(&lists), of_rattle(&changed(&lists, "answers: &mut [u64]", "answers: &[u64]")));
     assert_ne!(of_rattle(&lists), of_rattle(&changed(&lists, "accesses: &[u32]", "accesses: &[u64]")));
@@ -461,6 +462,7 @@ fn a_changed_declaration_shows() {
     of_c_changed("ARGS size_t frames, size_t uncached", "ARGS size_t uncached, size_t frames");
     of_c_changed("const uint64_t *words", "uint64_t *words");
     of_c_changed("uint64_t page", "uint32_t page");
+    of_c_changed("uint64_t page, uint64_t new_page", "uint64_t new_page, uint64_t page");
     of_c_changed("size_t process, oaledva_kind kind", "size_t process, oaledva_permission kind");
     of_c_changed("oaledva_place oaledva_look(", "oaledva_answer oaledva_look(");
     of_c_changed("entry_of_page(uint64_t page)", "entry_of_page(uint32_t page)");
@@ -495,6 +497,7 @@ fn a_changed_declaration_shows() {
     assert_ne!(types_of_rust(&crates), types_of_rust(&changed(&crates, "#[repr(transparent)]\npub", "pub")));
     assert_ne!(types_of_rust(&crates), types_of_rust(&changed(&crates, "#[repr(C)]", "#[repr(align(16))]")));
     assert_ne!(of_rust(&crates), of_rust(&changed(&crates, "page: u64", "page: u32")));
+    assert_ne!(of_rust(&crates), of_rust(&changed(&crates, ", new_page: u64", "")));
     assert_ne!(of_rust(&crates), of_rust(&changed(&crates, "set: u32, name: u64", "name: u64, set: u32")));
     assert_ne!(of_rust(&crates), of_rust(&changed(&crates, "write memory", "read memory")));
     assert_ne!(of_rust(&crates), of_rust(&changed(&crates, "write uses", "read uses")));

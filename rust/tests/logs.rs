@@ -26,7 +26,8 @@ fn every_call() -> Vec<Call> {
         Call::DropTag,
         Call::Store { process: 3, width: 1, address: 9, value: 7 },
         Call::Detach { process: 1, slot: 511 },
-        Call::Unmap { page: PAGE },
+        Call::Move { page: PAGE, new_page: PAGE + 1 },
+        Call::Unmap { page: PAGE + 1 },
     ]
 }
 
@@ -48,7 +49,8 @@ const LOG: &[u8] = &[
     11,
     1, 3, 1, 1, 9, 7,
     4, 1, 0xff, 3,
-    6, 0x80, 0x80, 0x80, 1,
+    12, 0x80, 0x80, 0x80, 1, 0x81, 0x80, 0x80, 1,
+    6, 0x81, 0x80, 0x80, 1,
 ];
 
 /// The ends of what each field may be: of 64 bits, of 32, and a flag.
@@ -68,6 +70,7 @@ fn at_the_ends() -> Vec<Call> {
             Call::Map { page: any, frame: number, write },
             Call::Unmap { page: any },
             Call::Protect { page: any, write },
+            Call::Move { page: any, new_page: !any },
             Call::FlushAll,
             Call::Tag { name: any },
             Call::LoadAndMap { line: number },
@@ -196,6 +199,7 @@ fn what_is_no_log_is_refused_at_its_place() {
         (vec![4, 1, 2, 0x82], Reason::Cut, 4, 0),
         (vec![4, 1, 2, 2, 8, 6], Reason::Cut, 6, 1),
         (vec![4, 1, 2, 2, 8, 6, 0x80], Reason::Cut, 7, 1),
+        (vec![4, 1, 2, 2, 8, 12, 5], Reason::Cut, 7, 1),
         (tenth(1)[..15].to_vec(), Reason::Cut, 15, 1),
         (vec![0x80, 0], Reason::Padded, 0, 0),
         (vec![4, 1, 2, 2, 8, 0x88, 0], Reason::Padded, 5, 1),
@@ -204,7 +208,7 @@ fn what_is_no_log_is_refused_at_its_place() {
         (tenth(2), Reason::TenthByte, 6, 1),
         (tenth(0x81), Reason::TenthByte, 6, 1),
         (vec![4, 1, 2, 2, 0], Reason::UnknownKind, 4, 0),
-        (vec![4, 1, 2, 2, 8, 12], Reason::UnknownKind, 5, 1),
+        (vec![4, 1, 2, 2, 8, 13], Reason::UnknownKind, 5, 1),
         (vec![4, 1, 2, 2, 8, 0x88, 1], Reason::UnknownKind, 5, 1),
         (vec![4, 1, 2, 2, 8, 1, 0, 2], Reason::TooLarge, 7, 1),
         (vec![4, 1, 2, 2, 8, 1, 0, 0, 4, 0, 1], Reason::TooLarge, 10, 1),
@@ -232,9 +236,9 @@ fn what_is_no_log_is_refused_at_its_place() {
 fn a_reader_that_refused_takes_nothing_more() {
     let (mut reader, mut room) = (Reader::default(), [Entry::NONE; 4]);
     assert_eq!((reader.refused(), reader.taken()), (None, 0));
-    let mut piece: &[u8] = &[4, 1, 2, 2, 8, 12, 8, 8];
+    let mut piece: &[u8] = &[4, 1, 2, 2, 8, 13, 8, 8];
     assert_eq!(reader.take(&mut piece, &mut room).len(), 2);
-    assert_eq!((piece, reader.take(&mut piece, &mut room)), (&[12, 8, 8][..], &[][..]));
+    assert_eq!((piece, reader.take(&mut piece, &mut room)), (&[13, 8, 8][..], &[][..]));
     let refused = Refused { reason: Reason::UnknownKind, place: 5, calls: 1 };
     assert_eq!((reader.refused(), reader.end(), reader.calls()), (Some(refused), Err(refused), 1));
     for _ in 0..3 {
@@ -291,7 +295,7 @@ fn a_writer_refuses_what_no_log_can_hold() {
     let mut log = Writer::new(Vec::new(), SHAPE).unwrap();
     log.write(Call::FlushAll).unwrap();
     for (entry, field, words) in [
-        (entry(12, [0; 5]), None, "a kind that is not known: 12"),
+        (entry(13, [0; 5]), None, "a kind that is not known: 13"),
         (entry(beyond + 8, [0; 5]), None, "a kind that is not known: 4294967304"),
         (Entry::NONE, None, "a kind that is not known: 18446744073709551615"),
         (Entry::from(SHAPE), None, "a kind that is not known: 0"),
@@ -316,6 +320,7 @@ fn a_writer_refuses_what_no_log_can_hold() {
         (entry(5, [0, 0, 2, 0, 0]), Some(3), "a field that is too large: write bit 2 in map"),
         (entry(7, [0, 2, 0, 0, 0]), Some(2), "a field that is too large: write bit 2 in protect"),
         (entry(8, [0, 0, 0, 0, 1]), Some(5), "a field that is too large: field 5, which flush all does not have, is 1"),
+        (entry(12, [0, 0, 1, 0, 0]), Some(3), "a field that is too large: field 3, which move does not have, is 1"),
     ] {
         let Err(WriteError::Unfit(unfit)) = log.write(entry) else { panic!("{entry:?} is written") };
         let reason = if field.is_some() { Reason::TooLarge } else { Reason::UnknownKind };
@@ -408,7 +413,7 @@ fn kinds_have_their_numbers() {
     for (kind, number) in Kind::ALL.iter().zip(1..) {
         assert_eq!((kind.number(), Kind::of(number.into())), (number, Some(*kind)));
     }
-    assert_eq!([0, 12, 1 << 32 | 5, u64::MAX].map(Kind::of), [None; 4]);
+    assert_eq!([0, 13, 1 << 32 | 5, u64::MAX].map(Kind::of), [None; 4]);
     assert_eq!(Kind::LoadAndMap.to_string(), "load-and-map (kind 10)");
     assert_eq!((Reason::of(0), Reason::of(4)), (None, Some(Reason::Cut)));
     assert_eq!(Reason::Cut.to_string(), "the log is cut (reason 4)");
@@ -427,6 +432,7 @@ fn by_name(board: &mut Board, call: Call) -> Result<u32, Refusal> {
         Call::Map { page, frame, write } => board.map(page, frame, write).map(nothing),
         Call::Unmap { page } => board.unmap(page).map(nothing),
         Call::Protect { page, write } => board.protect(page, write).map(nothing),
+        Call::Move { page, new_page } => board.move_page(page, new_page).map(nothing),
         Call::FlushAll => board.flush_all().map(nothing),
         Call::Tag { name } => board.tag(name).map(nothing),
         Call::LoadAndMap { line } => board.load_and_map(line).map(nothing),

@@ -65,6 +65,7 @@ fn the_summary_tells_kinds_answers_and_marks() {
         Call::Store { process: 0, width: 4, address: 0, value: 50 },
         Call::Load { process: 1, width: 1, address: 3 },
         Call::SupervisorLoad { width: 4, address: 0 },
+        Call::Move { page: 0x200000, new_page: 0x200000 },
     ] {
         log.write(call).unwrap();
     }
@@ -72,20 +73,22 @@ fn the_summary_tells_kinds_answers_and_marks() {
         log.write(Call::Load { process: 0, width: 1, address: 3 }).unwrap();
     }
     let expected = "\
-2,003 calls on a board of 4 frames (1 uncached), 2 processes and 2 lines
+2,004 calls on a board of 4 frames (1 uncached), 2 processes and 2 lines
 
 calls, by kind
         2,000   1  user access
             1   2  supervisor access
             1   3  attach
             1   5  map
+            1  12  move
 
 answers, by number
         2,002   0  done
             1   6  no segment is attached to the address's slot
+            1  11  the page is mapped already (move: the new page)
 
 marks, by number
-            3   0  the call was refused, or it is no access
+            4   0  the call was refused, or it is no access
         1,998   1  hit (99.9% of the accesses that were done)
             1   2  refilled (0.1% of the accesses that were done)
             1   4  uncached (0.1% of the accesses that were done)

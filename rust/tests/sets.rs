@@ -96,7 +96,7 @@ impl Chance {
         let address = 4096 * self.below(4) + 16 * line + self.of(&[0, 0, 4, 4, 8, 8, 12, 12, 2]);
         let global = self.of(&[PAGE * 4096 + address, PREFIX_1 + 4096 + address, address % 8192]);
         let (value, write) = (self.of(&[1, 77, 255, 256]), self.below(4) != 0);
-        match self.below(40) {
+        match self.below(41) {
             0..=11 => Call::Load { process, width, address: address as u32 },
             12..=23 => Call::Store { process, width, address: address as u32, value },
             24..=26 => Call::SupervisorLoad { width, address: global },
@@ -106,6 +106,7 @@ impl Chance {
             32 | 33 => Call::Map { page, frame, write },
             34 if self.below(3) == 0 => Call::Unmap { page },
             34 | 35 => Call::Protect { page, write },
+            40 => Call::Move { page, new_page: PAGE + self.below(4) },
             36 if self.below(3) == 0 => Call::FlushAll,
             36 => Call::Tag { name: page * 256 + line },
             37 => Call::LoadAndMap { line: 256 * frame + line as usize },
@@ -288,7 +289,7 @@ fn wild_records_count_as_in_their_set() {
 #[test]
 fn both_editions_give_the_same_answers() {
     let mut chance = Chance(1);
-    let (mut done, mut other_marks) = (0, 0);
+    let (mut done, mut moved, mut other_marks) = (0, 0, 0);
     for lines in [4, 8, 16, 64, 256] {
         let shape = Shape { lines, ..SHAPE };
         let (mut one_place, mut sets) = (Board::new(shape).unwrap(), Board::sets_of_four(shape).unwrap());
@@ -298,6 +299,7 @@ fn both_editions_give_the_same_answers() {
             let outcome = sets.perform(&call);
             assert_eq!((outcome, sets.pending()), (one_place.perform(&call), one_place.pending()), "{call:?}");
             done += usize::from(outcome.is_ok());
+            moved += usize::from(outcome.is_ok() && matches!(call, Call::Move { .. }));
             other_marks += usize::from(sets.mark() != one_place.mark());
             assert_eq!((sets.slots(), sets.words()), (one_place.slots(), one_place.words()), "{call:?}");
             if i % 100 == 0 {
@@ -308,7 +310,10 @@ fn both_editions_give_the_same_answers() {
         }
         assert!(one_place.uses().is_empty());
     }
-    assert!(done > 10_000 && other_marks > 1000, "{done} done, {other_marks} other marks");
+    assert!(
+        done > 10_000 && moved > 100 && other_marks > 1000,
+        "{done} done, {moved} moved, {other_marks} other marks"
+    );
 }
 
 #[test]

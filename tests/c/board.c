@@ -1,6 +1,6 @@
 /* What the header adds to the library's functions, tried: boards in static buffers and in a block, limits, the calls on a
- * board, lists of accesses, values and widths, marks, look's bytes, entries. tests/c/run compiles this as C99, C11, C++11 and
- * C++17 and runs each. */
+ * board, lists of accesses, values and widths, marks, moved pages, look's bytes, entries. tests/c/run compiles this as C99, C11,
+ * C++11 and C++17 and runs each. */
 #include "expect.h"
 #include <oaledva.h> /* twice is once */
 #include <string.h>
@@ -38,7 +38,11 @@ static void every_call(oaledva_board *b) {
     EXPECT(gives(oaledva_board_store(b, last, 1, 511u << 22, 1), OALEDVA_PAGE_READ_ONLY, 0, 0));
     EXPECT(gives(oaledva_board_supervisor_store(b, 2, PAGE * 4096, 0x0a0b), 0, 0, OALEDVA_REFILLED));
     EXPECT(gives(oaledva_board_supervisor_load(b, 4, PAGE * 4096), 0, 0x0a0b0304, OALEDVA_HIT));
-    EXPECT(gives(oaledva_board_unmap(b, PAGE), 0, 0, 0));
+    EXPECT(gives(oaledva_board_move(b, PAGE, PAGE + 1), 0, 0, 0) && b->memory[4096] == 0x0a);
+    EXPECT(gives(oaledva_board_load(b, last, 1, 511u << 22), OALEDVA_NOT_MAPPED, 0, 0));
+    EXPECT(gives(oaledva_board_load(b, last, 4, (511u << 22) + 4096), 0, 0x0a0b0304, OALEDVA_REFILLED));
+    EXPECT(gives(oaledva_board_store(b, last, 1, (511u << 22) + 4096, 1), OALEDVA_PAGE_READ_ONLY, 0, 0));
+    EXPECT(gives(oaledva_board_unmap(b, PAGE + 1), 0, 0, 0));
     EXPECT(gives(oaledva_board_map(b, PAGE, 3, two), 0, 0, 0));
     EXPECT(gives(oaledva_board_load_and_map(b, 3 * 256), OALEDVA_TAG, 0, 0));
     EXPECT(gives(oaledva_board_tag(b, name), 0, 0, 0) && b->tag.set == 1 && b->tag.name == name);
@@ -155,6 +159,52 @@ static void marks(void) {
     EXPECT(strcmp(went(oaledva_user_access(OALEDVA_LEND(b), b.tag, 0, OALEDVA_LOAD, 4, 0, 0)), "hit") == 0);
     EXPECT(strcmp(went(oaledva_user_access(OALEDVA_LEND(b), b.tag, 0, OALEDVA_LOAD, 4, 32, 0)), "wrote back") == 0);
     EXPECT(strcmp(went(oaledva_supervisor_access(OALEDVA_LEND(b), b.tag, OALEDVA_LOAD, 4, 8, 0)), "uncached") == 0);
+}
+
+/* A page that is moved keeps its bytes, those in the cache too, and its write bit. Refused, no byte of the board changes. */
+static void moves(void) {
+    const uint64_t new_page = PAGE + 1024, last = 0xFFBFFFFF;
+    const struct {
+        uint64_t page, new_page;
+        uint32_t number;
+    } refused[] = {{PAGE - 1, new_page, OALEDVA_RANGE},          {last + 1, new_page, OALEDVA_RANGE},
+                   {PAGE, PAGE - 1, OALEDVA_RANGE},              {PAGE, last + 1, OALEDVA_RANGE},
+                   {PAGE, ((uint64_t)1 << 32) + new_page, OALEDVA_RANGE},
+                   {PAGE + 2, last + 1, OALEDVA_RANGE},          {PAGE + 2, new_page, OALEDVA_NOT_MAPPED},
+                   {PAGE + 2, PAGE + 1, OALEDVA_NOT_MAPPED},     {PAGE + 2, PAGE + 2, OALEDVA_NOT_MAPPED},
+                   {PAGE, PAGE + 1, OALEDVA_MAPPED_ALREADY},     {PAGE, PAGE, OALEDVA_MAPPED_ALREADY}};
+    const size_t bytes = oaledva_board_bytes(4, 1, 2, 2);
+    void *const block = malloc(bytes), *const kept = malloc(bytes);
+    oaledva_board b;
+    EXPECT(kept != NULL && gives(oaledva_board_fresh(&b, 4, 1, 2, 2, block, bytes), 0, 0, 0));
+    EXPECT(oaledva_done(oaledva_board_map(&b, PAGE, 1, OALEDVA_WRITABLE)));
+    EXPECT(oaledva_done(oaledva_board_map(&b, PAGE + 1, 2, OALEDVA_READ_ONLY)));
+    EXPECT(oaledva_done(oaledva_board_attach(&b, 0, 0, 2048, OALEDVA_WRITABLE)));
+    EXPECT(oaledva_done(oaledva_board_attach(&b, 1, 0, 2049, OALEDVA_READ_ONLY)));
+    /* One line more than the cache has: the first is in memory, the others held and changed. */
+    for (uint32_t line = 0; line < 3; line++) EXPECT(oaledva_done(oaledva_board_store(&b, 0, 4, 16 * line, 50 + line)));
+    EXPECT(oaledva_done(oaledva_board_tag(&b, PAGE * 256)));
+    memcpy(kept, block, bytes);
+    for (size_t i = 0; i < OALEDVA_COUNT(refused); i++) {
+        EXPECT(gives(oaledva_board_move(&b, refused[i].page, refused[i].new_page), refused[i].number, 0, OALEDVA_NO_ACCESS));
+        EXPECT(memcmp(kept, block, bytes) == 0 && b.tag.set == 1 && b.tag.name == PAGE * 256);
+    }
+    /* A pending tag is not asked, and stays. */
+    EXPECT(gives(oaledva_board_move(&b, PAGE, new_page), 0, 0, OALEDVA_NO_ACCESS));
+    EXPECT(b.tag.set == 1 && b.tag.name == PAGE * 256 && oaledva_done(oaledva_board_drop_tag(&b)));
+    EXPECT(b.words[1] == new_page * 4 + 3 && b.words[2] == (PAGE + 1) * 4 + 1);
+    for (uint32_t i = 0; i < 4; i++) EXPECT(b.records[i] == 0);
+    for (uint32_t line = 0; line < 3; line++) {
+        EXPECT(b.memory[4096 + 16 * line + 3] == 50 + line);
+        EXPECT(gives(oaledva_board_load(&b, 0, 4, 16 * line), OALEDVA_NOT_MAPPED, 0, 0));
+        EXPECT(gives(oaledva_board_load(&b, 1, 4, 16 * line), 0, 50 + line, OALEDVA_REFILLED));
+    }
+    /* By each buffer; a page that is read-only stays so. */
+    EXPECT(gives(oaledva_move(OALEDVA_LEND(b), PAGE + 1, last), 0, 0, OALEDVA_NO_ACCESS) && b.words[2] == last * 4 + 1);
+    b.lines = 4;
+    EXPECT(gives(oaledva_move(OALEDVA_LEND(b), last, PAGE), OALEDVA_SHAPE, 0, 0) && b.words[2] == last * 4 + 1);
+    free(kept);
+    free(block);
 }
 
 /* The page under segment 2048 may be written, the one under 2049 not; process 1 has 2048 read-only; slot 2 of process 0 has no
@@ -422,6 +472,7 @@ int main(void) {
     limits();
     values();
     marks();
+    moves();
     lists();
     made_accesses();
     packing();

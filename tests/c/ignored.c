@@ -33,6 +33,7 @@ void ignore_all(
     oaledva_map(OALEDVA_LEND(b), 0x200000, 1, OALEDVA_WRITABLE);
     oaledva_unmap(OALEDVA_LEND(b), 0x200000);
     oaledva_protect(OALEDVA_LEND(b), 0x200000, OALEDVA_READ_ONLY);
+    oaledva_move(OALEDVA_LEND(b), 0x200000, 0x200400);
     oaledva_flush_all(OALEDVA_LEND(b));
     oaledva_tag(OALEDVA_LEND(b), OALEDVA_TAG_OF(b), 0x20000000);
     oaledva_load_and_map(OALEDVA_LEND(b), OALEDVA_TAG_OF(b), 256);
@@ -54,6 +55,7 @@ void ignore_all(
     oaledva_board_map(&b, 0x200000, 1, OALEDVA_WRITABLE);
     oaledva_board_unmap(&b, 0x200000);
     oaledva_board_protect(&b, 0x200000, OALEDVA_READ_ONLY);
+    oaledva_board_move(&b, 0x200000, 0x200400);
     oaledva_board_flush_all(&b);
     oaledva_board_tag(&b, 0x20000000);
     oaledva_board_load_and_map(&b, 256);
@@ -79,6 +81,7 @@ void ignore_all(
     oaledva_map_call(0x200000, 1, OALEDVA_WRITABLE);
     oaledva_unmap_call(0x200000);
     oaledva_protect_call(0x200000, OALEDVA_READ_ONLY);
+    oaledva_move_call(0x200000, 0x200400);
     oaledva_flush_all_call();
     oaledva_tag_call(0x20000000);
     oaledva_load_and_map_call(256);
@@ -98,6 +101,7 @@ void ignore_all(
     oaledva_sets_map(OALEDVA_SETS_LEND(s), 0x200000, 1, OALEDVA_WRITABLE);
     oaledva_sets_unmap(OALEDVA_SETS_LEND(s), 0x200000);
     oaledva_sets_protect(OALEDVA_SETS_LEND(s), 0x200000, OALEDVA_READ_ONLY);
+    oaledva_sets_move(OALEDVA_SETS_LEND(s), 0x200000, 0x200400);
     oaledva_sets_flush_all(OALEDVA_SETS_LEND(s));
     oaledva_sets_tag(OALEDVA_SETS_LEND(s), OALEDVA_SETS_TAG_OF(s), 0x20000000);
     oaledva_sets_load_and_map(OALEDVA_SETS_LEND(s), OALEDVA_SETS_TAG_OF(s), 256);
@@ -116,6 +120,7 @@ void ignore_all(
     oaledva_sets_board_map(&s, 0x200000, 1, OALEDVA_WRITABLE);
     oaledva_sets_board_unmap(&s, 0x200000);
     oaledva_sets_board_protect(&s, 0x200000, OALEDVA_READ_ONLY);
+    oaledva_sets_board_move(&s, 0x200000, 0x200400);
     oaledva_sets_board_flush_all(&s);
     oaledva_sets_board_tag(&s, 0x20000000);
     oaledva_sets_board_load_and_map(&s, 256);

@@ -23,9 +23,10 @@ static const uint8_t LOG[] = {
     11,
     1, 3, 1, 1, 9, 7,
     4, 1, 0xff, 3,
-    6, 0x80, 0x80, 0x80, 1,
+    12, 0x80, 0x80, 0x80, 1, 0x81, 0x80, 0x80, 1,
+    6, 0x81, 0x80, 0x80, 1,
 };
-enum { LOG_ENTRIES = 16, LOG_BYTES = sizeof LOG };
+enum { LOG_ENTRIES = 17, LOG_BYTES = sizeof LOG };
 
 /* The same, made by the header's functions. */
 static void made(oaledva_log_entry *entries) {
@@ -48,7 +49,8 @@ static void made(oaledva_log_entry *entries) {
     entries[n++] = oaledva_drop_tag_call();
     entries[n++] = oaledva_access_call(listed);
     entries[n++] = oaledva_detach_call(1, 511);
-    entries[n++] = oaledva_unmap_call(PAGE);
+    entries[n++] = oaledva_move_call(PAGE, PAGE + 1);
+    entries[n++] = oaledva_unmap_call(PAGE + 1);
     EXPECT(n == LOG_ENTRIES);
 }
 
@@ -74,7 +76,8 @@ static void in_words(void) {
         {11, 0, 0, 0, 0, 0},
         {1, 3, 1, 1, 9, 7},
         {4, 1, 511, 0, 0, 0},
-        {6, PAGE, 0, 0, 0, 0},
+        {12, PAGE, PAGE + 1, 0, 0, 0},
+        {6, PAGE + 1, 0, 0, 0, 0},
     };
     oaledva_log_entry entries[LOG_ENTRIES];
     made(entries);
@@ -86,6 +89,7 @@ static void in_words(void) {
     EXPECT(oaledva_load_call(SIZE_MAX, 3, 0).fields[0] == SIZE_MAX);
     EXPECT(oaledva_supervisor_load_call(3, UINT64_MAX).fields[2] == UINT64_MAX);
     EXPECT(oaledva_map_call(UINT64_MAX, SIZE_MAX, OALEDVA_WRITABLE).fields[1] == SIZE_MAX);
+    EXPECT(oaledva_move_call(UINT64_MAX, 5).fields[0] == UINT64_MAX && oaledva_move_call(5, UINT64_MAX).fields[1] == UINT64_MAX);
 }
 
 /* The bytes of each entry, one behind the other. */
@@ -108,7 +112,7 @@ static void refused_entries(void) {
         oaledva_log_entry entry;
         uint32_t reason, field;
     } given[] = {
-        {{12, {0, 0, 0, 0, 0}}, OALEDVA_LOG_UNKNOWN_KIND, 0},
+        {{13, {0, 0, 0, 0, 0}}, OALEDVA_LOG_UNKNOWN_KIND, 0},
         {{UINT64_MAX, {0, 9, 0, 0, 0}}, OALEDVA_LOG_UNKNOWN_KIND, 0},
         {{BEYOND + 8, {0, 0, 0, 0, 0}}, OALEDVA_LOG_UNKNOWN_KIND, 0},
         {{1, {0, 2, 4, 0, 0}}, OALEDVA_LOG_TOO_LARGE, 2},
@@ -127,6 +131,7 @@ static void refused_entries(void) {
         {{5, {0, 0, UINT64_MAX, 0, 0}}, OALEDVA_LOG_TOO_LARGE, 3},
         {{7, {0, 2, 0, 0, 0}}, OALEDVA_LOG_TOO_LARGE, 2},
         {{8, {1, 0, 0, 0, 0}}, OALEDVA_LOG_TOO_LARGE, 1},
+        {{12, {0, 0, 1, 0, 0}}, OALEDVA_LOG_TOO_LARGE, 3},
         {{0, {1, 1, 1, 1, 1}}, OALEDVA_LOG_TOO_LARGE, 5},
     };
     oaledva_access load = oaledva_load_access(0, 4, 0);
@@ -139,11 +144,12 @@ static void refused_entries(void) {
     /* The largest that it can, of 64 bits and of 32: ten bytes and five. */
     EXPECT(oaledva_log_encode(oaledva_log_header(SIZE_MAX, SIZE_MAX, SIZE_MAX, SIZE_MAX)).length == 40);
     EXPECT(oaledva_log_encode(oaledva_store_call(SIZE_MAX, UINT32_MAX, BEYOND - 1, UINT32_MAX)).length == 1 + 10 + 1 + 15);
+    EXPECT(oaledva_log_encode(oaledva_move_call(UINT64_MAX, UINT64_MAX)).length == 1 + 20);
 }
 
 /* The library's own function to write: its lengths, and that it touches no byte that is not the entry's. */
 static void written(void) {
-    static const uint64_t unmap[7] = {6, PAGE, 0, 0, 0, 0, 0}, wrong[6] = {6, PAGE, 1, 0, 0, 0};
+    static const uint64_t unmap[7] = {6, PAGE + 1, 0, 0, 0, 0, 0}, wrong[6] = {6, PAGE, 1, 0, 0, 0};
     static const struct {
         size_t words, bytes;
     } lengths[] = {{5, 60}, {7, 60}, {0, 60}, {6, 59}, {6, 0}};
@@ -231,12 +237,14 @@ static void refused_logs(void) {
         {3, {4, 1, 2}, 0, 3, OALEDVA_LOG_CUT},
         {5, {4, 1, 2, 2, 5}, 1, 5, OALEDVA_LOG_CUT},
         {6, {4, 1, 2, 2, 6, 0x80}, 1, 6, OALEDVA_LOG_CUT},
+        {6, {4, 1, 2, 2, 12, 5}, 1, 6, OALEDVA_LOG_CUT},
         {2, {0x80, 0}, 0, 0, OALEDVA_LOG_PADDED},
         {8, {4, 1, 2, 2, 8, 9, 0x81, 0}, 2, 6, OALEDVA_LOG_PADDED},
         {15, {4, 1, 2, 2, 9, 0x80, 0x80, 0x80, 0x80, 0x80, 0x80, 0x80, 0x80, 0x80, 0}, 1, 5, OALEDVA_LOG_PADDED},
         {15, {4, 1, 2, 2, 9, 0x80, 0x80, 0x80, 0x80, 0x80, 0x80, 0x80, 0x80, 0x80, 2}, 1, 5, OALEDVA_LOG_TENTH_BYTE},
         {15, {4, 1, 2, 2, 9, 0x80, 0x80, 0x80, 0x80, 0x80, 0x80, 0x80, 0x80, 0x80, 0x81}, 1, 5, OALEDVA_LOG_TENTH_BYTE},
         {6, {4, 1, 2, 2, 0, 8}, 1, 4, OALEDVA_LOG_UNKNOWN_KIND},
+        {6, {4, 1, 2, 2, 13, 8}, 1, 4, OALEDVA_LOG_UNKNOWN_KIND},
         {7, {4, 1, 2, 2, 8, 0x8c, 1}, 2, 5, OALEDVA_LOG_UNKNOWN_KIND},
         {9, {4, 1, 2, 2, 7, 0x80, 1, 2, 8}, 1, 7, OALEDVA_LOG_TOO_LARGE},
         {10, {4, 1, 2, 2, 8, 1, 0, 2, 4, 0}, 2, 7, OALEDVA_LOG_TOO_LARGE},
@@ -293,7 +301,7 @@ static void performed(void) {
     OALEDVA_STATIC_BOARD(by_name, 4, 1, 2, 2);
     static const oaledva_log_entry none[] = {
         {0, {4, 1, 2, 2, 0}},
-        {12, {0, 0, 0, 0, 0}},
+        {13, {0, 0, 0, 0, 0}},
         {BEYOND + 8, {0, 0, 0, 0, 0}},
         {1, {1, 2, 4, 0x7fc00000, 0}},
         {1, {1, 1, BEYOND + 4, 0x7fc00000, 0}},
@@ -326,7 +334,8 @@ static void performed(void) {
     answers[n++] = oaledva_board_drop_tag(&by_name);
     answers[n++] = oaledva_board_store(&by_name, 3, 1, 9, 7);
     answers[n++] = oaledva_board_detach(&by_name, 1, 511);
-    answers[n++] = oaledva_board_unmap(&by_name, PAGE);
+    answers[n++] = oaledva_board_move(&by_name, PAGE, PAGE + 1);
+    answers[n++] = oaledva_board_unmap(&by_name, PAGE + 1);
     for (size_t i = 1; i < n; i++) {
         if (i == middle) {
             static uint8_t cache[sizeof b_cache];
@@ -341,7 +350,7 @@ static void performed(void) {
         EXPECT(oaledva_board_perform(&b, calls[i]).packed == answers[i].packed);
     }
     EXPECT(gives(answers[5], 0, 0xff, OALEDVA_HIT) && gives(answers[7], 0, UINT32_MAX, OALEDVA_HIT));
-    EXPECT(gives(answers[13], OALEDVA_RANGE, 0, 0) && gives(answers[15], 0, 0, 0));
+    EXPECT(gives(answers[13], OALEDVA_RANGE, 0, 0) && gives(answers[15], 0, 0, 0) && gives(answers[16], 0, 0, 0));
     EXPECT(memcmp(b_slots, by_name_slots, sizeof b_slots) == 0 && memcmp(b_words, by_name_words, sizeof b_words) == 0);
     EXPECT(memcmp(b_records, by_name_records, sizeof b_records) == 0 && memcmp(b_cache, by_name_cache, sizeof b_cache) == 0);
     EXPECT(memcmp(b_memory, by_name_memory, sizeof b_memory) == 0 && b.tag.set == 0 && by_name.tag.set == 0);

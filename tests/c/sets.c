@@ -44,7 +44,14 @@ static void every_call(oaledva_sets_board *b) {
     EXPECT(gives(oaledva_sets_board_supervisor_store(b, 2, PAGE * 4096, 0x0a0b), 0, 0, OALEDVA_REFILLED));
     EXPECT(gives(oaledva_sets_board_supervisor_load(b, 4, PAGE * 4096), 0, 0x0a0b0304, OALEDVA_HIT));
     EXPECT(gives(oaledva_sets_board_supervisor_store(b, 4, 8, 7), 0, 0, OALEDVA_UNCACHED));
-    EXPECT(gives(oaledva_sets_board_unmap(b, PAGE), 0, 0, 0));
+    EXPECT(gives(oaledva_sets_board_move(b, PAGE, PAGE + 1), 0, 0, 0) && memory[4096] == 0x0a);
+    EXPECT(gives(oaledva_sets_board_load(b, last, 1, 511u << 22), OALEDVA_NOT_MAPPED, 0, 0));
+    EXPECT(gives(oaledva_sets_board_load(b, last, 4, (511u << 22) + 4096), 0, 0x0a0b0304, OALEDVA_REFILLED));
+    EXPECT(gives(oaledva_sets_board_store(b, last, 1, (511u << 22) + 4096, 1), OALEDVA_PAGE_READ_ONLY, 0, 0));
+    EXPECT(gives(oaledva_sets_board_move(b, PAGE + 1, PAGE + 1), OALEDVA_MAPPED_ALREADY, 0, 0));
+    EXPECT(gives(oaledva_sets_board_move(b, PAGE, PAGE), OALEDVA_NOT_MAPPED, 0, 0));
+    EXPECT(gives(oaledva_sets_board_move(b, PAGE, PAGE - 1), OALEDVA_RANGE, 0, 0));
+    EXPECT(gives(oaledva_sets_board_unmap(b, PAGE + 1), 0, 0, 0));
     EXPECT(gives(oaledva_sets_board_map(b, PAGE, 3, two), 0, 0, 0));
     EXPECT(gives(oaledva_sets_board_load_and_map(b, 3 * 256), OALEDVA_TAG, 0, 0));
     EXPECT(gives(oaledva_sets_board_tag(b, name), 0, 0, 0) && b->common.tag.set == 1 && b->common.tag.name == name);
@@ -196,9 +203,10 @@ static void by_each_buffer(void) {
         EXPECT(gives(oaledva_sets_drop_tag(OALEDVA_SETS_LEND(b), OALEDVA_SETS_TAG_OF(b)), refused, 0, 0));
         EXPECT(oaledva_sets_look_number(OALEDVA_SETS_LEND(b), 257).number == refused);
         EXPECT(oaledva_sets_look(OALEDVA_SETS_LEND(b), 257).at == (refused == 0 ? 16 : OALEDVA_NOWHERE));
+        EXPECT(gives(oaledva_sets_move(OALEDVA_SETS_LEND(b), PAGE, PAGE + 1), refused, 0, 0) && b.common.memory[4096 + 3] == 9);
         EXPECT(reads(b.uses, "0011 1011 0000 0000"));
         EXPECT(gives(oaledva_sets_flush_all(OALEDVA_SETS_LEND(b)), refused, 0, 0));
-        EXPECT(gives(oaledva_sets_unmap(OALEDVA_SETS_LEND(b), PAGE), refused, 0, 0));
+        EXPECT(gives(oaledva_sets_unmap(OALEDVA_SETS_LEND(b), PAGE + 1), refused, 0, 0));
         EXPECT(gives(oaledva_sets_detach(OALEDVA_SETS_LEND(b), 0, 0), refused, 0, 0));
     }
 }
@@ -289,7 +297,7 @@ static void limits(void) {
 /* What no reader gives as a call is refused, and so on both kinds of board; the rest does what the functions do. */
 static void performed(void) {
     OALEDVA_SETS_STATIC_BOARD(b, 4, 1, 2, 4);
-    const oaledva_log_entry kind = {12, {0, 0, 0, 0, 0}}, load = {1, {0, 0, 4, 0, 1}}, far = {1, {0, 0, 4, (uint64_t)1 << 32, 0}};
+    const oaledva_log_entry kind = {13, {0, 0, 0, 0, 0}}, load = {1, {0, 0, 4, 0, 1}}, far = {1, {0, 0, 4, (uint64_t)1 << 32, 0}};
     const oaledva_log_entry supervisor = {2, {0, 4, 0, 1, 0}}, wide = {2, {0, (uint64_t)1 << 32, 0, 0, 0}};
     EXPECT(gives(oaledva_sets_board_perform(&b, oaledva_log_header(4, 1, 2, 4)), OALEDVA_SHAPE, 0, 0));
     EXPECT(gives(oaledva_sets_board_perform(&b, kind), OALEDVA_SHAPE, 0, 0));
@@ -309,7 +317,9 @@ static void performed(void) {
     EXPECT(gives(oaledva_sets_board_perform(&b, oaledva_load_and_map_call(257)), 0, 0, 0) && b.common.tag.set == 0);
     EXPECT(gives(oaledva_sets_board_perform(&b, oaledva_drop_tag_call()), OALEDVA_TAG, 0, 0));
     EXPECT(gives(oaledva_sets_board_perform(&b, oaledva_flush_all_call()), 0, 0, 0) && b.common.memory[4097] == 44);
-    EXPECT(gives(oaledva_sets_board_perform(&b, oaledva_unmap_call(PAGE)), 0, 0, 0));
+    EXPECT(gives(oaledva_sets_board_perform(&b, oaledva_move_call(PAGE, PAGE + 1)), 0, 0, 0));
+    EXPECT(b.common.words[1] == (PAGE + 1) * 4 + 3);
+    EXPECT(gives(oaledva_sets_board_perform(&b, oaledva_unmap_call(PAGE + 1)), 0, 0, 0));
     EXPECT(gives(oaledva_sets_board_perform(&b, oaledva_detach_call(1, 2)), 0, 0, 0) && b.common.slots[512 + 2] == 0);
     EXPECT(reads(b.uses, "0011 1011 0000 0000"));
 }

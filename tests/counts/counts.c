@@ -86,6 +86,7 @@ static uint64_t listed(uint32_t i, uint32_t store, uint32_t address) {
     KIND("prefix 0 load", supervisor(0, 8))                                                                        \
     KIND("map and unmap", ON_BOARD(map, 0x300000, 63, OALEDVA_WRITABLE) + ON_BOARD(unmap, 0x300000))               \
     KIND("protect", ON_BOARD(protect, PAGE, i % 2 ? OALEDVA_WRITABLE : OALEDVA_READ_ONLY))                         \
+    KIND("move", ON_BOARD(move, i % 2 ? 0x300000 : PAGE, i % 2 ? PAGE : 0x300000))                                 \
     KIND("flush all", CALL(flush_all)(LEND).packed)                                                                \
     KIND("tag and load-and-map",                                                                                   \
          ON_BOARD(tag, TAG_OF, PAGE * 256 + PUSHING)                                                               \

@@ -2,7 +2,7 @@
 use std::{env, fs, path::Path};
 
 const READMES: [(&str, &str, usize); 2] =
-    [("readme", "../../README.md", 4), ("rust_readme", "../../rust/README.md", 5)];
+    [("readme", "../../README.md", 5), ("rust_readme", "../../rust/README.md", 6)];
 
 fn main() {
     let mut modules = String::new();

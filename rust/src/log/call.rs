@@ -81,6 +81,13 @@ pub enum Call {
         /// Whether it may be written.
         write: bool,
     },
+    /// Gives a page's frame to a new page: [`Board::move_page`](crate::Board::move_page).
+    Move {
+        /// The page.
+        page: u64,
+        /// The new page.
+        new_page: u64,
+    },
     /// Writes back every changed line and drops all lines.
     FlushAll,
     /// Remembers a line name.
@@ -108,6 +115,7 @@ impl Call {
             Call::Map { .. } => Kind::Map,
             Call::Unmap { .. } => Kind::Unmap,
             Call::Protect { .. } => Kind::Protect,
+            Call::Move { .. } => Kind::Move,
             Call::FlushAll => Kind::FlushAll,
             Call::Tag { .. } => Kind::Tag,
             Call::LoadAndMap { .. } => Kind::LoadAndMap,
@@ -163,6 +171,7 @@ impl Entry {
             (Kind::Map, [page, frame, write, 0, 0]) => Call::Map { page, frame: frame as usize, write: flag(write)? },
             (Kind::Unmap, [page, 0, 0, 0, 0]) => Call::Unmap { page },
             (Kind::Protect, [page, write, 0, 0, 0]) => Call::Protect { page, write: flag(write)? },
+            (Kind::Move, [page, new_page, 0, 0, 0]) => Call::Move { page, new_page },
             (Kind::FlushAll, [0, 0, 0, 0, 0]) => Call::FlushAll,
             (Kind::Tag, [name, 0, 0, 0, 0]) => Call::Tag { name },
             (Kind::LoadAndMap, [line, 0, 0, 0, 0]) => Call::LoadAndMap { line: line as usize },
@@ -195,6 +204,7 @@ impl From<Call> for Entry {
             Call::Map { page, frame, write } => [page, frame as u64, write.into(), 0, 0],
             Call::Unmap { page } => [page, 0, 0, 0, 0],
             Call::Protect { page, write } => [page, write.into(), 0, 0, 0],
+            Call::Move { page, new_page } => [page, new_page, 0, 0, 0],
             Call::FlushAll | Call::DropTag => [0; 5],
             Call::Tag { name } => [name, 0, 0, 0, 0],
             Call::LoadAndMap { line } => [line as u64, 0, 0, 0, 0],

@@ -16,11 +16,12 @@ numbered! {
     Tag = 9, "tag";
     LoadAndMap = 10, "load-and-map";
     DropTag = 11, "drop tag";
+    Move = 12, "move";
 }
 
 impl Kind {
     /// Every kind, by number.
-    pub const ALL: [Kind; 11] = [
+    pub const ALL: [Kind; 12] = [
         Kind::UserAccess,
         Kind::SupervisorAccess,
         Kind::Attach,
@@ -32,6 +33,7 @@ impl Kind {
         Kind::Tag,
         Kind::LoadAndMap,
         Kind::DropTag,
+        Kind::Move,
     ];
 
     /// The kind of a number, if one has it.
@@ -54,6 +56,7 @@ impl Kind {
             Kind::FlushAll | Kind::DropTag => &[],
             Kind::Tag => &["line name"],
             Kind::LoadAndMap => &["physical line"],
+            Kind::Move => &["page", "new page"],
         }
     }
 }

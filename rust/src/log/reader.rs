@@ -10,7 +10,7 @@ use std::ops::Range;
 /// ```
 /// use oaledva::log::{Call, Entry, Reader, Reason};
 ///
-/// let log = [4, 1, 2, 2, 6, 0x80, 0x80, 0x80, 1, 8, 12]; // a header; unmap page 0x200000; flush all; and no kind has 12
+/// let log = [4, 1, 2, 2, 6, 0x80, 0x80, 0x80, 1, 8, 13]; // a header; unmap page 0x200000; flush all; and no kind has 13
 /// let (mut reader, mut room, mut calls) = (Reader::new(), [Entry::NONE; 2], Vec::new());
 /// for mut piece in log.chunks(3) {
 ///     while let entries @ [_, ..] = reader.take(&mut piece, &mut room) {

@@ -34,6 +34,7 @@ where
             Call::Map { page, frame, write } => self.map(page, frame, write),
             Call::Unmap { page } => self.unmap(page),
             Call::Protect { page, write } => self.protect(page, write),
+            Call::Move { page, new_page } => self.move_page(page, new_page),
             Call::FlushAll => self.flush_all(),
             Call::Tag { name } => self.tag(name),
             Call::LoadAndMap { line } => self.load_and_map(line),
