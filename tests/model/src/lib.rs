@@ -30,7 +30,7 @@ pub const USER_END: u32 = 1 << 31;
 /// "A segment that may be attached runs from 2048 to 4,190,207."
 pub const SEGMENT_FIRST: u64 = 2048;
 pub const SEGMENT_LAST: u64 = 4_190_207;
-/// "Map, unmap and protect take ordinary pages only, 0x200000 to 0xFFBFFFFF."
+/// "Map, unmap and protect take ordinary pages only, 0x200000 to 0xFFBFFFFF." So does move (CR 9).
 pub const PAGE_FIRST: u64 = 0x20_0000;
 pub const PAGE_LAST: u64 = 0xFFBF_FFFF;
 /// "F frames of 4096 bytes, 1 to 1,048,576."
@@ -376,6 +376,7 @@ pub enum Call {
     Map { page: u64, frame: u64, write: bool },
     Unmap { page: u64 },
     Protect { page: u64, write: bool },
+    Move { page: u64, new_page: u64 },
     FlushAll,
     Tag { name: u64 },
     LoadAndMap { line: u64 },
@@ -465,6 +466,13 @@ pub enum Event {
     Protected {
         lines: u64,
     },
+    /// Move: lines written back and lines dropped (written back ones included) by the old page's names, and by the new one's.
+    Moved {
+        old_written: u64,
+        old_dropped: u64,
+        new_written: u64,
+        new_dropped: u64,
+    },
     /// Attach, detach, tag, drop tag: done.
     Done,
 }
@@ -479,7 +487,7 @@ impl Event {
             Event::Uncached => mark::UNCACHED,
             Event::Refused(_) | Event::Inserted { .. } | Event::FoundHeld => mark::NO_ACCESS,
             Event::Mapped { .. } | Event::Unmapped { .. } | Event::Flushed { .. } => mark::NO_ACCESS,
-            Event::Protected { .. } | Event::Done => mark::NO_ACCESS,
+            Event::Protected { .. } | Event::Moved { .. } | Event::Done => mark::NO_ACCESS,
         }
     }
 }
@@ -510,6 +518,9 @@ pub trait Machine {
     }
     fn protect(&mut self, page: u64, write: bool) -> Self::Answer {
         self.make(Call::Protect { page, write })
+    }
+    fn move_page(&mut self, page: u64, new_page: u64) -> Self::Answer {
+        self.make(Call::Move { page, new_page })
     }
     fn flush_all(&mut self) -> Self::Answer {
         self.make(Call::FlushAll)
@@ -625,6 +636,7 @@ impl Board {
             Call::Map { page, frame, write } => self.do_map(page, frame, write),
             Call::Unmap { page } => self.do_unmap(page),
             Call::Protect { page, write } => self.do_protect(page, write),
+            Call::Move { page, new_page } => self.do_move(page, new_page),
             Call::FlushAll => self.do_flush_all(),
             Call::Tag { name } => self.do_tag(name),
             Call::LoadAndMap { line } => self.do_load_and_map(line),
@@ -1013,6 +1025,30 @@ impl Board {
         Ok((0, Event::Protected { lines: records.len() as u64 }))
     }
 
+    /// CR 9: "Add move (page, new page): writes back and drops the old page's lines and those of the new name, then the frame's
+    /// word gets the new page with the same write bit. Refused with 2, 8 (old not mapped), 11 (new mapped, also if both are
+    /// equal)". "Bytes are kept, unlike map." Decided: it ignores a pending tag; lines of both names are written back in one walk
+    /// by rising place; equal pages that aren't mapped give 8; of a doubled page, the word of the lowest frame from U up only.
+    fn do_move(&mut self, page: u64, new_page: u64) -> Outcome {
+        ask(1, !self.fits())?;
+        ask(2, !page_in_range(page) || !page_in_range(new_page))?;
+        let (frame, write) = mapping(&self.shape, &self.words, page).ok_or(8u32)?;
+        ask(11, new_page == page || mapping(&self.shape, &self.words, new_page).is_some())?;
+        let (mut old_written, mut old_dropped, mut new_written, mut new_dropped) = (0, 0, 0, 0);
+        for at in self.all_records() {
+            let (written, dropped) = match self.held(at).map(|record| page_of_name(record.name)) {
+                Some(of) if of == page => (&mut old_written, &mut old_dropped),
+                Some(of) if of == new_page => (&mut new_written, &mut new_dropped),
+                _ => continue,
+            };
+            *written += u64::from(self.write_back(at));
+            *dropped += 1;
+            self.drop_line(at);
+        }
+        self.words[frame as usize] = frame_word(new_page, write);
+        Ok((0, Event::Moved { old_written, old_dropped, new_written, new_dropped }))
+    }
+
     /// "Flush all: writes back every changed line, drops all."
     fn do_flush_all(&mut self) -> Outcome {
         ask(1, !self.fits())?;
@@ -1216,6 +1252,13 @@ impl Plain {
                 ask(2, !page_in_range(page))?;
                 let (frame, _) = mapping(&self.shape, &self.words, page).ok_or(8u32)?;
                 self.words[frame as usize] = frame_word(page, write);
+                Ok(0)
+            }
+            Call::Move { page, new_page } => {
+                ask(2, !page_in_range(page) || !page_in_range(new_page))?;
+                let (frame, write) = mapping(&self.shape, &self.words, page).ok_or(8u32)?;
+                ask(11, new_page == page || mapping(&self.shape, &self.words, new_page).is_some())?;
+                self.words[frame as usize] = frame_word(new_page, write);
                 Ok(0)
             }
             Call::FlushAll => Ok(0),

@@ -1,6 +1,6 @@
-//! CR 1's log of calls: a reader of a whole log, a writer, and a replay, written from CR 1 and the readings of it alone.
-//! Quotations are CR 1's; "decided" marks a reading. The reader takes a log as it is, whole: that a log may come "in pieces cut
-//! anywhere" is for the test that cuts it.
+//! CR 1's log of calls, with CR 9's kind: a reader of a whole log, a writer, and a replay, written from those requests and the
+//! readings of them alone. Quotations are CR 1's, or CR 9's where it is named; "decided" marks a reading. The reader takes a log
+//! as it is, whole: that a log may come "in pieces cut anywhere" is for the test that cuts it.
 
 use crate::{limits_hold, Answer, Board, Call, Edition, Shape};
 use std::fmt::Write;
@@ -140,6 +140,8 @@ pub fn fields_of(kind: u64) -> Option<&'static [Field]> {
         10 => &[Any],
         // "11 drop tag".
         11 => &[],
+        // CR 9: "Log kind 12": page, new page.
+        12 => &[Any, Any],
         _ => return None,
     })
 }
@@ -177,6 +179,7 @@ pub fn numbers_of(call: &Call) -> (u64, Vec<u64>) {
         Call::Tag { name } => (9, vec![name]),
         Call::LoadAndMap { line } => (10, vec![line]),
         Call::DropTag => (11, vec![]),
+        Call::Move { page, new_page } => (12, vec![page, new_page]),
     }
 }
 
@@ -204,6 +207,7 @@ fn call_of(kind: u64, fields: &[u64]) -> Call {
         (9, &[name]) => Call::Tag { name },
         (10, &[line]) => Call::LoadAndMap { line },
         (11, []) => Call::DropTag,
+        (12, &[page, new_page]) => Call::Move { page, new_page },
         _ => unreachable!("the kind is known and has its fields"),
     }
 }

@@ -54,6 +54,10 @@ fn attach(process: u64, slot: u64, segment: u64, write: bool) -> Call {
     Call::Attach { process, slot, segment, write }
 }
 
+fn move_page(page: u64, new_page: u64) -> Call {
+    Call::Move { page, new_page }
+}
+
 fn good(shape: &Shape, calls: &[Call]) -> Vec<u8> {
     write(shape, calls).expect("calls that can be written")
 }
@@ -73,6 +77,28 @@ pub fn session() -> (Shape, Vec<Call>) {
         map(PAGE, 1, false),
         load(0, 1, 3),
         store(0, 1, 3, 77),
+    ];
+    (SHAPE, calls)
+}
+
+/// A page handed over (CR 9): the importer, process 0, stores; its page is moved into the recorder's segment; the recorder reads.
+pub fn handed_over() -> (Shape, Vec<Call>) {
+    let new_page = (SEGMENT + 1) * 1024;
+    let calls = vec![
+        map(PAGE, 1, true),
+        attach(0, 0, SEGMENT, true),
+        attach(1, 0, SEGMENT + 1, false),
+        store(0, 4, 0, 50),
+        store(0, 4, 16, 60),
+        load(1, 4, 0),
+        move_page(PAGE, new_page),
+        load(1, 4, 0),
+        load(1, 4, 16),
+        load(0, 4, 0),
+        supervisor_store(4, new_page * 4096, 70),
+        map(PAGE, 2, true),
+        load(0, 4, 0),
+        load(1, 4, 0),
     ];
     (SHAPE, calls)
 }
@@ -133,6 +159,21 @@ fn all_kinds() -> Vec<Call> {
         Call::Tag { name: NAME - 1 },                   // 2
         Call::FlushAll,                                 // 0
         load(0, 1, 3),                                  // 0, refilled: 5
+        move_page(PAGE, PAGE),                          // 11: both are equal
+        move_page(PAGE + 1, PAGE + 1),                  // 8: likewise, and not mapped
+        move_page(PAGE + 1, PAGE),                      // 8, and 11
+        move_page(PAGE - 1, PAGE + 1),                  // 2: page
+        move_page(PAGE, 1 << 32),                       // 2: new page
+        map(PAGE + 2, 3, true),                         // 0
+        move_page(PAGE, PAGE + 2),                      // 11
+        supervisor_store(1, ORDINARY + 16, 6),          // 0, refilled
+        move_page(PAGE, PAGE + 1),                      // 0
+        load(0, 1, 3),                                  // 8
+        load(0, 1, 4096 + 3),                           // 0, refilled: 5
+        load(0, 1, 4096 + 16),                          // 0, refilled: 6
+        store(0, 1, 4096, 1),                           // 9: still read-only
+        move_page(PAGE + 1, PAGE),                      // 0
+        load(0, 1, 16),                                 // 0, refilled: 6
         Call::Unmap { page: PAGE },                     // 0
         Call::Unmap { page: PAGE },                     // 8
         Call::Unmap { page: 1 << 32 },                  // 2
@@ -185,12 +226,13 @@ fn limits() -> Vec<Call> {
         Call::Tag { name: long },
         Call::LoadAndMap { line: long },
         Call::DropTag,
+        move_page(long, long),
     ]
 }
 
 /// Calls of a board whose header's numbers are out of their limits.
 fn answered_by_1() -> Vec<Call> {
-    vec![map(PAGE, 1, true), load(0, 4, 0), Call::FlushAll, Call::DropTag]
+    vec![map(PAGE, 1, true), load(0, 4, 0), Call::FlushAll, Call::DropTag, move_page(PAGE, PAGE + 1)]
 }
 
 /// A log whose board and first two calls are good; then these bytes.
@@ -214,12 +256,14 @@ fn cut(mut log: Vec<u8>) -> Vec<u8> {
 /// All of them: the good ones first.
 pub fn all() -> Vec<Sample> {
     let (shape, calls) = session();
+    let (handed_shape, handed_calls) = handed_over();
     let with = |frames, uncached, processes, lines| Shape { frames, uncached, processes, lines };
     let nine = [0xFF; 9];
     let unmapped_after = entry(&[6, PAGE]);
     let of = |name, words, log| Sample { name, words, log };
     vec![
         of("session", "the session of 01", good(&shape, &calls)),
+        of("handed-over", "a page moved from one process's segment into another's", good(&handed_shape, &handed_calls)),
         of("all-kinds", "every kind of call, and every number but 1", good(&SHAPE, &all_kinds())),
         of("header-only", "a board and no calls", write_header(&SHAPE)),
         of("largest", "the largest board that the program takes", good(&with(8, 1, 16, 64), &largest())),
@@ -234,9 +278,11 @@ pub fn all() -> Vec<Sample> {
         of("cut-entry", "ends behind a field, the next one missing", then(&[&entry(&[1, 0, 0, 4])])),
         of("cut-kind", "ends behind a kind", then(&[&[6]])),
         of("cut-number", "ends inside a field", cut(then(&[&entry(&[6, PAGE])]))),
+        of("cut-move", "ends behind a move's page, the new page missing", then(&[&entry(&[12, PAGE])])),
         of("cut-nine", "ends behind nine groups of a field", then(&[&[6], &nine])),
         of("padded", "a group of 0 behind a field's last one", then(&[&[6, 0x80, 0x80, 0x80, 0x81, 0]])),
         of("padded-zero", "0 in two groups", then(&[&[4, 0x80, 0, 0]])),
+        of("padded-move", "a move's new page, padded", then(&[&entry(&[12, PAGE]), &[0x80, 0x80, 0x80, 0x81, 0]])),
         of("padded-kind", "a kind in two groups", then(&[&[0x88, 0], &unmapped_after])),
         of("padded-header", "U in two groups", vec![4, 0x81, 0, 2, 2]),
         of("padded-tenth", "a tenth byte of 0", then(&[&[6], &nine, &[0], &unmapped_after])),
@@ -245,7 +291,7 @@ pub fn all() -> Vec<Sample> {
         of("tenth-byte-kind", "a kind with a tenth byte of 127", then(&[&nine, &[0x7F]])),
         of("tenth-byte-header", "F with a tenth byte of 2", [&nine[..], &[2, 1, 2, 2]].concat()),
         of("kind-0", "an entry of kind 0", then(&[&entry(&[0, 4, 1, 2, 2])])),
-        of("kind-12", "an entry of kind 12", then(&[&entry(&[12, PAGE, PAGE + 1])])),
+        of("kind-13", "an entry of kind 13", then(&[&entry(&[13, PAGE, PAGE + 1])])),
         of("kind-far", "a kind that is 6, cut to 32 bits", then(&[&entry(&[(1 << 32) + 6, PAGE])])),
         of("flag-2", "map with a write bit of 2", then(&[&entry(&[5, PAGE + 1, 2, 2])])),
         of("load-or-store-2", "an access that is neither", then(&[&entry(&[1, 0, 2, 4, 0, 0])])),

@@ -80,7 +80,7 @@ fn call(r: &mut Rng, b: &Board) -> Call {
             Call::LoadAndMap { line: right.filter(|_| !r.chance(5)).unwrap_or(r.below(256 * b.shape.frames + 3)) }
         };
     }
-    match r.below(100) {
+    match r.below(104) {
         0..=44 => {
             let process = if r.chance(100) { r.next() } else { r.below(b.shape.processes) };
             let mut at = likely_address(r, b, process) + within(r);
@@ -111,7 +111,8 @@ fn call(r: &mut Rng, b: &Board) -> Call {
         86..=89 => Call::Unmap { page: likely_page(r, b) },
         90..=92 => Call::Protect { page: likely_page(r, b), write: r.flip() },
         93 => Call::FlushAll,
-        94..=98 => Call::Tag { name: (likely_page(r, b) % (1 << 33)) * 256 + within(r) / 16 },
+        94..=97 => Call::Move { page: likely_page(r, b), new_page: page(r) },
+        98..=102 => Call::Tag { name: (likely_page(r, b) % (1 << 33)) * 256 + within(r) / 16 },
         _ => {
             if r.flip() {
                 Call::DropTag
@@ -184,11 +185,18 @@ fn against_plain(edition: Edition) {
         "flush, written back",
         "protect, no line",
         "protect, lines",
+        "move, nothing held",
+        "move, dropped only",
+        "move, written back",
         "done",
     ] {
         assert!(events.get(want).is_some_and(|&n| n >= 10), "{want}: {events:#?}");
     }
+    // From a fresh board no line is held of a page that isn't mapped.
+    assert!(!events.contains_key(LINES_OF_THE_NEW_PAGE), "{events:#?}");
 }
+
+const LINES_OF_THE_NEW_PAGE: &str = "move, lines of the new page";
 
 fn kind(e: &Event) -> String {
     let some = |n: u64| if n == 0 { "0" } else { "some" };
@@ -216,6 +224,8 @@ fn kind(e: &Event) -> String {
         Event::Flushed { written, dropped } => swept("flush", written, dropped),
         Event::Protected { lines: 0 } => "protect, no line".into(),
         Event::Protected { .. } => "protect, lines".into(),
+        Event::Moved { old_written, old_dropped, new_dropped: 0, .. } => swept("move", old_written, old_dropped),
+        Event::Moved { .. } => LINES_OF_THE_NEW_PAGE.into(),
         Event::Done => "done".into(),
     }
 }

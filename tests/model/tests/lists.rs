@@ -50,7 +50,7 @@ fn list(r: &mut Rng, processes: u64) -> Vec<[u32; ACCESS_WORDS]> {
 /// A supervisor's call between lists.
 fn between(r: &mut Rng, board: &Board) -> Call {
     let page = (2048 + r.below(2)) * 1024 + r.below(3);
-    match r.below(12) {
+    match r.below(13) {
         0..=3 => {
             let (process, slot) = (r.below(board.shape.processes), r.below(3));
             Call::Attach { process, slot, segment: 2048 + r.below(2), write: !r.chance(4) }
@@ -60,6 +60,7 @@ fn between(r: &mut Rng, board: &Board) -> Call {
         8 => Call::Protect { page, write: r.flip() },
         9 => Call::Tag { name: page * 256 + r.below(4) },
         10 => Call::DropTag,
+        11 => Call::Move { page, new_page: (2048 + r.below(2)) * 1024 + r.below(3) },
         _ => Call::SupervisorAccess { store: true, width: 1, global: page * 4096 + r.below(256), value: 3 },
     }
 }

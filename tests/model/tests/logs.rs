@@ -1,4 +1,5 @@
-//! CR 1's log: numbers, refusals and their places, round trips, the session, replays, and the sample logs.
+//! CR 1's log, with CR 9's kind: numbers, refusals and their places, round trips, the session, replays, moves, and the sample
+//! logs.
 mod common;
 use common::*;
 use model::log::*;
@@ -135,10 +136,10 @@ fn unknown_kinds() {
     for kind in kinds {
         let log = after_header(&[&[8][..], &numbers(&[kind, 0, 0, 0, 0, 0])].concat());
         match kind {
-            1..=11 => assert_ne!(read(&log).refusal, refused(Reason::UnknownKind, 5), "{kind}"),
+            1..=12 => assert_ne!(read(&log).refusal, refused(Reason::UnknownKind, 5), "{kind}"),
             _ => check(&log, 1, Reason::UnknownKind, 5),
         }
-        assert_eq!(fields_of(kind).is_some(), (1..=11).contains(&kind));
+        assert_eq!(fields_of(kind).is_some(), (1..=12).contains(&kind));
     }
 }
 
@@ -146,7 +147,7 @@ fn unknown_kinds() {
 #[test]
 fn fields_too_large() {
     let (any, short) = (u64::MAX, u64::from(u32::MAX));
-    let largest: [(u64, &[u64]); 13] = [
+    let largest: [(u64, &[u64]); 14] = [
         (1, &[any, 0, short, short, 0]),
         (1, &[any, 1, short, short, short]),
         (2, &[0, short, any, 0]),
@@ -160,6 +161,7 @@ fn fields_too_large() {
         (9, &[any]),
         (10, &[any]),
         (11, &[]),
+        (12, &[any, any]),
     ];
     let mut limited = 0;
     for (kind, fields) in largest {
@@ -179,7 +181,7 @@ fn fields_too_large() {
                 wrong[index] = more;
                 assert_eq!(write_entry(kind, &wrong), Err(Unwritable::TooLarge(index + 1)));
                 let place = 5 + numbers(&[&[kind], &wrong[..index]].concat()).len() as u64;
-                let log = after_header(&[&[8][..], &numbers(&[&[kind], &wrong[..]].concat()), &[12]].concat());
+                let log = after_header(&[&[8][..], &numbers(&[&[kind], &wrong[..]].concat()), &[13]].concat());
                 check(&log, 1, Reason::TooLarge, place);
             }
         }
@@ -189,14 +191,14 @@ fn fields_too_large() {
     // Of several fields the first is named.
     assert_eq!(write_entry(1, &[0, 2, 1 << 32, 1 << 32, 1 << 32]), Err(Unwritable::TooLarge(2)));
     assert_eq!(write_entry(0, &[]), Err(Unwritable::UnknownKind));
-    assert_eq!(write_entry(12, &[]), Err(Unwritable::UnknownKind));
+    assert_eq!(write_entry(13, &[]), Err(Unwritable::UnknownKind));
 }
 
 /// A number is asked whether it is whole and well written before it is asked what it is.
 #[test]
 fn the_number_comes_first() {
     // A padded kind, unknown too; a padded flag, too large too; a flag that is cut.
-    check(&after_header(&[0x8C, 0]), 0, Reason::Padded, 4);
+    check(&after_header(&[0x8D, 0]), 0, Reason::Padded, 4);
     check(&after_header(&[7, 1, 0x82, 0]), 0, Reason::Padded, 6);
     check(&after_header(&[7, 1, 0x82]), 0, Reason::Cut, 7);
     check(&after_header(&[[0xFF; 9].as_slice(), &[2]].concat()), 0, Reason::TenthByte, 4);
@@ -206,8 +208,11 @@ fn the_number_comes_first() {
 /// A log that ends anywhere has the calls that are whole by then. It is good where a call ends, or the header, and else cut.
 #[test]
 fn cut_anywhere() {
-    let (shape, calls) = samples::session();
-    let log = write(&shape, &calls).unwrap();
+    [samples::session(), samples::handed_over()].iter().for_each(|(shape, calls)| cut_everywhere(shape, calls));
+}
+
+fn cut_everywhere(shape: &Shape, calls: &[Call]) {
+    let log = write(shape, calls).unwrap();
     let whole = read(&log);
     assert_eq!(whole.ends.len(), 1 + calls.len());
     for length in 0..=log.len() {
@@ -237,7 +242,7 @@ fn short(r: &mut Rng) -> u32 {
 fn call(r: &mut Rng) -> Call {
     let (store, write) = (r.flip(), r.flip());
     let value = if store { short(r) } else { 0 };
-    match r.below(11) {
+    match r.below(12) {
         0 => Call::UserAccess { process: any(r), store, width: short(r), address: short(r), value },
         1 => Call::SupervisorAccess { store, width: short(r), global: any(r), value },
         2 => Call::Attach { process: any(r), slot: any(r), segment: any(r), write },
@@ -248,7 +253,8 @@ fn call(r: &mut Rng) -> Call {
         7 => Call::FlushAll,
         8 => Call::Tag { name: any(r) },
         9 => Call::LoadAndMap { line: any(r) },
-        _ => Call::DropTag,
+        10 => Call::DropTag,
+        _ => Call::Move { page: any(r), new_page: any(r) },
     }
 }
 
@@ -358,6 +364,7 @@ fn session_as_a_log() {
 #[test]
 fn replays_are_runs() {
     let mut r = Rng(0x0F1E_2D3C_4B5A_6978);
+    let mut moves = 0;
     for _ in 0..300 {
         let shape = shape(1 + r.below(8), r.below(3), 1 + r.below(16), r.below(9));
         let near = |r: &mut Rng| match call(r) {
@@ -367,13 +374,15 @@ fn replays_are_runs() {
                 Call::UserAccess { process: r.below(3), store, width: 4, address, value }
             }
             Call::Attach { .. } => Call::Attach { process: r.below(3), slot: 0, segment: 2048, write: true },
+            Call::Move { .. } => Call::Move { page: 0x20_0000 + r.below(3), new_page: 0x20_0000 + r.below(3) },
             other => other,
         };
         let calls: Vec<Call> = (0..60).map(|_| near(&mut r)).collect();
         let log = write(&shape, &calls).unwrap();
         for edition in Edition::ALL {
             let mut board = Board::fresh_of(edition, shape);
-            let answers: Vec<Answer> = calls.iter().map(|call| board.step(call).0).collect();
+            let (answers, events): (Vec<Answer>, Vec<Event>) = calls.iter().map(|call| board.step(call)).unzip();
+            moves += events.iter().filter(|event| matches!(event, Event::Moved { .. })).count();
             let replayed = Replayed { answers, refusal: None };
             assert_eq!(replay_in(edition, &log, Some(PROGRAM)), replayed);
             assert_eq!(replay_in(edition, &log, None), replayed);
@@ -384,6 +393,94 @@ fn replays_are_runs() {
             assert!(first == replayed || edition == Edition::Fours);
         }
     }
+    assert!(moves > 20, "{moves}");
+}
+
+// ----- move -----
+
+/// CR 9: "Log kind 12", and "move (page, new page)": the old page comes first.
+#[test]
+fn move_as_an_entry() {
+    let call = Call::Move { page: 0x20_0000, new_page: 300 };
+    let bytes = [12, 0x80, 0x80, 0x80, 1, 0xAC, 2];
+    assert_eq!(numbers_of(&call), (12, vec![0x20_0000, 300]));
+    assert_eq!(fields_of(12), Some(&[Field::Any, Field::Any][..]));
+    assert_eq!(write_call(&call), Ok(bytes.to_vec()));
+    let log = after_header(&bytes);
+    assert_eq!(read(&log), Log { header: Some(SHAPE), calls: vec![call], ends: vec![4, 11], refusal: None });
+    // Behind each of its bytes but the last the log is cut.
+    for length in 5..log.len() {
+        check(&log[..length], 0, Reason::Cut, length as u64);
+    }
+    // A third number is no field of it: here an unmap follows.
+    let followed = read(&after_header(&[&bytes[..], &[6, 3]].concat()));
+    assert_eq!((followed.calls, followed.refusal), (vec![call, Call::Unmap { page: 3 }], None));
+}
+
+/// Neither field has a limit below 2^64; each is refused at its own first byte where it is badly written.
+#[test]
+fn fields_of_a_move() {
+    let (max, nine) = (u64::MAX, [0xFF; 9]);
+    for (page, new_page) in [(0, 0), (0, max), (max, 0), (max, max), (1 << 32, 1 << 63)] {
+        let call = Call::Move { page, new_page };
+        let log = write(&SHAPE, &[call]).unwrap();
+        assert_eq!(log, after_header(&numbers(&[12, page, new_page])));
+        assert_eq!((read(&log).calls, read(&log).refusal), (vec![call], None));
+    }
+    check(&after_header(&[12, 0x80, 0, 1]), 0, Reason::Padded, 5);
+    check(&after_header(&[12, 0xAC, 2, 0x81, 0]), 0, Reason::Padded, 7);
+    check(&after_header(&[&[12][..], &nine, &[2]].concat()), 0, Reason::TenthByte, 5);
+    check(&after_header(&[&[12, 0xAC, 2][..], &nine, &[2]].concat()), 0, Reason::TenthByte, 7);
+    // The kind itself in two groups.
+    check(&after_header(&[0x8C, 0, 1, 2]), 0, Reason::Padded, 4);
+}
+
+/// The importer's stores miss, at places 0 and 1; the recorder's page isn't mapped yet. The move drops both lines, so the
+/// recorder's loads refill; the importer's page is gone. Mapped again it is zeros, in another frame: the refill writes back the
+/// supervisor's 70, and the recorder's next load brings it in again.
+const HANDED_OVER: &str = "call answer value mark
+1 0 0 0
+2 0 0 0
+3 0 0 0
+4 0 0 2
+5 0 0 2
+6 8 0 0
+7 0 0 0
+8 0 50 2
+9 0 60 2
+10 8 0 0
+11 0 0 1
+12 0 0 0
+13 0 0 3
+14 0 70 2
+";
+
+#[test]
+fn handed_over_as_a_log() {
+    let (shape, calls) = samples::handed_over();
+    let log = write(&shape, &calls).unwrap();
+    #[rustfmt::skip]
+    assert_eq!(log, [
+        4, 1, 2, 2,
+        5, 0x80, 0x80, 0x80, 1, 1, 1,
+        3, 0, 0, 0x80, 16, 1,
+        3, 1, 0, 0x81, 16, 0,
+        1, 0, 1, 4, 0, 50,
+        1, 0, 1, 4, 16, 60,
+        1, 1, 0, 4, 0, 0,
+        // 0x200000, and 0x200400: 2^21 + 8 * 2^7.
+        12, 0x80, 0x80, 0x80, 1, 0x80, 0x88, 0x80, 1,
+        1, 1, 0, 4, 0, 0,
+        1, 1, 0, 4, 16, 0,
+        1, 0, 0, 4, 0, 0,
+        // 0x200400000: 2^33 + 2^22, that is 2 * 2^21 and 32 * 2^28.
+        2, 1, 4, 0x80, 0x80, 0x80, 0x82, 0x20, 70,
+        5, 0x80, 0x80, 0x80, 1, 2, 1,
+        1, 0, 0, 4, 0, 0,
+        1, 1, 0, 4, 0, 0,
+    ]);
+    let replayed = replay(&log, Some(PROGRAM));
+    assert_eq!((replayed.rows(), replayed.complaint()), (HANDED_OVER.into(), String::new()));
 }
 
 /// "The program replays up to 8 frames, 64 lines and 16 processes, else refuses at 0". Decided: once the header is read, before
@@ -458,10 +555,12 @@ fn samples_have_everything() {
         assert!(all.iter().any(|sample| read(&sample.log).refusal.is_some_and(|refusal| refusal.reason == reason)));
     }
     let calls: Vec<Call> = all.iter().flat_map(|sample| read(&sample.log).calls).collect();
-    assert!((1..=11).all(|kind| calls.iter().any(|call| numbers_of(call).0 == kind)));
+    assert!((1..=12).all(|kind| calls.iter().any(|call| numbers_of(call).0 == kind)));
     let answers: Vec<Answer> = all.iter().flat_map(|sample| replay(&sample.log, Some(PROGRAM)).answers).collect();
     assert!((0..=13).all(|number| answers.iter().any(|answer| answer.number == number)));
     assert!((0..=4).all(|mark| answers.iter().any(|answer| answer.mark == mark)));
-    let session = all.iter().find(|sample| sample.name == "session").unwrap();
-    assert_eq!(session.files()[1].1, SESSION.as_bytes());
+    for (name, rows) in [("session", SESSION), ("handed-over", HANDED_OVER)] {
+        let sample = all.iter().find(|sample| sample.name == name).unwrap();
+        assert_eq!(sample.files()[1].1, rows.as_bytes());
+    }
 }

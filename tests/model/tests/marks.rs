@@ -202,6 +202,24 @@ fn no_access() {
     }
 }
 
+/// After a move the page's line is filled anew, whatever was held of it, and nothing of the page is left to be written back: the
+/// move has done that. A line of another name is there still, and written back by the access.
+#[test]
+fn after_a_move() {
+    for (record, mark) in at_the_place(NAME, 256) {
+        let mut b = with_record(ready(), record);
+        assert_eq!(b.move_page(PAGE, PAGE + 1), DONE, "after {record:?}");
+        let of_the_page = record.name / 256 == PAGE;
+        let global = (PAGE + 1) * 4096;
+        let answer = b.supervisor_access(false, 1, global, 0);
+        assert_eq!((answer.number, answer.mark), (0, if of_the_page { REFILLED } else { mark }), "after {record:?}");
+        // Its byte is the frame's: what the move or the access wrote there, or map's zeros.
+        let written = mark != REFILLED && record.changed && record.line == 256;
+        assert_eq!(answer.value, if written { 0xEE } else { 0 }, "after {record:?}");
+        assert_eq!(b.supervisor_access(false, 1, global, 0).mark, HIT, "after {record:?}");
+    }
+}
+
 /// The numbers as the request writes them.
 #[test]
 fn numbers() {

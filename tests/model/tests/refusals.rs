@@ -99,10 +99,26 @@ const GLOBAL_HIGH: Row = (2, |_, call| match call {
 });
 const GLOBAL_HUGE: Row = (2, with!(SupervisorAccess, global = u64::MAX));
 const PAGES: [Row; 4] = [
-    (2, with!(Map | Unmap | Protect, page = 0x1F_FFFF)),
-    (2, with!(Map | Unmap | Protect, page = 0xFFC0_0000)),
-    (2, with!(Map | Unmap | Protect, page = 0x1_0020_0000)),
-    (2, with!(Map | Unmap | Protect, page = u64::MAX)),
+    (2, with!(Map | Unmap | Protect | Move, page = 0x1F_FFFF)),
+    (2, with!(Map | Unmap | Protect | Move, page = 0xFFC0_0000)),
+    (2, with!(Map | Unmap | Protect | Move, page = 0x1_0020_0000)),
+    (2, with!(Map | Unmap | Protect | Move, page = u64::MAX)),
+];
+const NEW_PAGES: [Row; 4] = [
+    (2, with!(Move, new_page = 0x1F_FFFF)),
+    (2, with!(Move, new_page = 0xFFC0_0000)),
+    (2, with!(Move, new_page = 0x1_0020_0001)),
+    (2, with!(Move, new_page = u64::MAX)),
+];
+/// Page 0x200000 is not mapped, whatever words there are.
+const NOT_MAPPED: [Row; 3] = [
+    UNMAPPED,
+    (8, |b, _| b.words[1] = 0x20_0000 * 4 + 2),
+    // Only below U.
+    (8, |b, _| {
+        b.words[1] = 0;
+        b.words[0] = 0x20_0000 * 4 + 3
+    }),
 ];
 
 #[test]
@@ -305,15 +321,7 @@ fn map() {
 fn unmap_and_protect() {
     let mut rows: Vec<Row> = vec![ONE];
     rows.extend(PAGES);
-    rows.extend::<[Row; 3]>([
-        UNMAPPED,
-        (8, |b, _| b.words[1] = 0x20_0000 * 4 + 2),
-        // Only below U.
-        (8, |b, _| {
-            b.words[1] = 0;
-            b.words[0] = 0x20_0000 * 4 + 3
-        }),
-    ]);
+    rows.extend(NOT_MAPPED);
     for pending in [false, true] {
         let mut b = ready();
         b.tag = (pending, 0x2000_0000);
@@ -321,6 +329,39 @@ fn unmap_and_protect() {
         check(&b, Call::Protect { page: 0x20_0000, write: false }, &rows);
         check(&b, Call::Protect { page: 0x20_0000, write: true }, &rows);
     }
+}
+
+/// CR 9: "Refused with 2, 8 (old not mapped), 11 (new mapped, also if both are equal)". Decided: a pending tag is ignored. Both
+/// pages equal and not mapped is one of the sets: 8.
+#[test]
+fn move_page() {
+    let mut rows: Vec<Row> = vec![ONE];
+    rows.extend(PAGES);
+    rows.extend(NEW_PAGES);
+    rows.extend(NOT_MAPPED);
+    rows.extend::<[Row; 3]>([
+        (11, |b, _| b.words[3] = 0x20_0001 * 4 + 1),
+        (11, |b, _| b.words[3] = 0x20_0001 * 4 + 3),
+        (11, with!(Move, new_page = 0x20_0000)),
+    ]);
+    for pending in [false, true] {
+        let mut b = ready();
+        b.tag = (pending, 0x2000_0000);
+        check(&b, Call::Move { page: 0x20_0000, new_page: 0x20_0001 }, &rows);
+    }
+}
+
+/// Either page at both ends of its range: done, and one further is refused.
+#[test]
+fn move_at_the_ends() {
+    let (first, last) = (0x20_0000, 0xFFBF_FFFF);
+    let mut b = ready();
+    assert_eq!(b.move_page(first, last + 1), no(2));
+    assert_eq!(b.move_page(first, last), DONE);
+    assert_eq!(b.words, [0, last * 4 + 3, 0, 0]);
+    assert_eq!(b.move_page(last, first - 1), no(2));
+    assert_eq!(b.move_page(last, first), DONE);
+    assert_eq!(b.words, [0, first * 4 + 3, 0, 0]);
 }
 
 #[test]

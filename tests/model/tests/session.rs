@@ -1,4 +1,4 @@
-//! 01's session, with the marks that CR 8 gives it, and the shortcuts that 01 names.
+//! 01's session, with the marks that CR 8 gives it, and the shortcuts that 01 names; pages handed over (CR 9).
 mod common;
 use common::*;
 use model::*;
@@ -257,4 +257,185 @@ fn prefix_1_record() {
     // The store stays in the cache; look shows it.
     assert_eq!(b.memory, before);
     assert_eq!(b.look(0x203).1[5], 1);
+}
+
+// ----- pages handed over -----
+
+/// The page of `ready()`, in segment 2048, which process 0 has in slot 0; and the first page of segment 2049.
+const OLD: u64 = 0x20_0000;
+const NEW: u64 = 0x20_0400;
+const HAND_OVER: Call = Call::Move { page: OLD, new_page: NEW };
+
+/// A move that finds so many lines of the old page, none of the new one.
+fn moved(old_written: u64, old_dropped: u64) -> Event {
+    Event::Moved { old_written, old_dropped, new_written: 0, new_dropped: 0 }
+}
+
+/// `ready()`, and process 1 has segment 2049 in slot 0.
+fn importer_and_recorder() -> Board {
+    let mut b = ready();
+    assert_eq!(b.attach(1, 0, 2049, true), DONE);
+    b
+}
+
+/// "The recorder should get the importer's page without a copy."
+#[test]
+fn the_recorder_gets_the_page() {
+    let mut b = importer_and_recorder();
+    assert_eq!(b.user_access(0, true, 4, 0, 50), done(0, REFILLED));
+    assert_eq!(b.user_access(0, true, 4, 16, 51), done(0, REFILLED));
+    // The third line pushes the first out: now one changed line is in memory, and two are in the cache.
+    assert_eq!(b.user_access(0, true, 4, 32, 52), done(0, WROTE_BACK));
+    assert_eq!(b.user_access(1, false, 4, 0, 0), no(8));
+    let cache = b.cache.clone();
+    assert_eq!(b.step(&HAND_OVER), (DONE, moved(2, 2)));
+    // Both lines are in memory, where the page's frame is, and in no record; their bytes stay in the cache.
+    assert_eq!(b.memory[4096 + 16..4096 + 20], [0, 0, 0, 51]);
+    assert_eq!(b.memory[4096 + 32..4096 + 36], [0, 0, 0, 52]);
+    assert_eq!((&b.records, &b.cache), (&vec![0; 4], &cache));
+    // The recorder reads all of it by its own name; nothing is held, so each is filled.
+    for (address, value) in [(0, 50), (16, 51), (32, 52), (48, 0)] {
+        assert_eq!(b.user_access(1, false, 4, address, 0), done(value, REFILLED), "{address}");
+    }
+    assert_eq!(b.record(0), rec(NEW * 256 + 2, 256 + 2, false, true));
+    // The importer has it no more.
+    assert_eq!(b.user_access(0, false, 4, 0, 0), no(8));
+    assert_eq!(b.user_access(0, true, 4, 16, 0), no(8));
+}
+
+/// "writes back and drops the old page's lines": with changed lines and others, or none. Lines of other pages stay.
+#[test]
+fn move_takes_the_lines_of_its_page() {
+    // Line 1 has place 1; lines 0 and 2 have place 0.
+    let rows: [(&[(bool, u32)], Event); 5] = [
+        (&[], moved(0, 0)),
+        (&[(false, 0)], moved(0, 1)),
+        (&[(true, 0)], moved(1, 1)),
+        (&[(true, 0), (false, 16)], moved(1, 2)),
+        (&[(true, 0), (false, 32)], moved(0, 1)),
+    ];
+    for (accesses, event) in rows {
+        let mut b = importer_and_recorder();
+        for &(store, address) in accesses {
+            assert_eq!(b.user_access(0, store, 1, address, 0).number, 0);
+        }
+        assert_eq!(b.step(&HAND_OVER), (DONE, event), "{accesses:?}");
+        assert_eq!(b.records, [0; 4], "{accesses:?}");
+    }
+    // A third page's line at place 1, changed: it isn't written back, and stays.
+    let mut b = importer_and_recorder();
+    assert_eq!(b.map(0x20_0001, 2, true), DONE);
+    assert_eq!(b.user_access(0, true, 1, 0, 50), done(0, REFILLED));
+    assert_eq!(b.user_access(0, true, 1, 4096 + 16, 60), done(0, REFILLED));
+    assert_eq!(b.step(&HAND_OVER), (DONE, moved(1, 1)));
+    assert_eq!(b.record(1), rec(0x2000_0101, 512 + 1, true, true));
+    assert_eq!(b.memory[8192 + 16], 0);
+    assert_eq!(b.user_access(0, false, 1, 4096 + 16, 0), done(60, HIT));
+}
+
+/// "Bytes are kept, unlike map": every byte of the frame, and of the others.
+#[test]
+fn move_keeps_the_bytes() {
+    let mut b = ready();
+    for line in 0..256 {
+        assert_eq!(b.user_access(0, true, 4, 16 * line, 1000 + line).number, 0);
+    }
+    let lines: Vec<_> = (0..1024).map(|line| b.look(line)).collect();
+    assert_eq!(b.move_page(OLD, NEW), DONE);
+    assert_eq!((0..1024).map(|line| b.look(line)).collect::<Vec<_>>(), lines);
+    for line in 0..256 {
+        assert_eq!(b.supervisor_access(false, 4, NEW * 4096 + 16 * line, 0), done(1000 + line as u32, REFILLED));
+    }
+    // Map takes the old page again, in another frame, with zeros; the moved one's bytes stay.
+    assert_eq!(b.map(OLD, 1, true), no(10));
+    assert_eq!(b.map(OLD, 2, true), DONE);
+    assert_eq!(b.user_access(0, false, 4, 16, 0), done(0, REFILLED));
+    assert_eq!(b.supervisor_access(false, 4, NEW * 4096, 0), done(1000, REFILLED));
+}
+
+/// "then the frame's word gets the new page with the same write bit".
+#[test]
+fn move_keeps_the_write_bit() {
+    for write in [false, true] {
+        let mut b = importer_and_recorder();
+        assert_eq!(b.protect(OLD, write), DONE);
+        assert_eq!(b.move_page(OLD, NEW), DONE);
+        assert_eq!(b.words, [0, NEW * 4 + if write { 3 } else { 1 }, 0, 0]);
+        assert_eq!(b.user_access(1, true, 1, 0, 9), if write { done(0, REFILLED) } else { no(9) });
+        assert_eq!(b.user_access(1, false, 1, 0, 0).number, 0);
+        assert_eq!(b.record(0), rec(NEW * 256, 256, write, write));
+        // Protect goes by the new page from now on.
+        assert_eq!(b.protect(OLD, !write), no(8));
+        assert_eq!(b.protect(NEW, !write), DONE);
+        assert_eq!(b.user_access(1, true, 1, 0, 9), if write { no(9) } else { done(0, HIT) });
+    }
+}
+
+/// The old page is not mapped afterwards, and the new one is: for every call that asks.
+#[test]
+fn after_a_move() {
+    let mut b = ready();
+    assert_eq!(b.user_access(0, true, 1, 3, 50), done(0, REFILLED));
+    assert_eq!(b.move_page(OLD, NEW), DONE);
+    for call in [Call::Unmap { page: OLD }, Call::Protect { page: OLD, write: true }, HAND_OVER] {
+        assert_eq!(b.step(&call).0, no(8), "{call:?}");
+    }
+    assert_eq!(b.supervisor_access(false, 1, OLD * 4096, 0), no(8));
+    assert_eq!(b.map(NEW, 2, true), no(11));
+    // The frame is not free.
+    assert_eq!(b.supervisor_access(false, 1, 0x1_0000_1003, 0), no(10));
+    // Unmap of the new page frees it; its bytes are there.
+    assert_eq!(b.unmap(NEW), DONE);
+    assert_eq!(b.words, [0; 4]);
+    assert_eq!(b.supervisor_access(false, 1, 0x1_0000_1003, 0), done(50, REFILLED));
+}
+
+/// There and back: everything is as it was, but for lines that are no more held. On, too, to a third page.
+#[test]
+fn moved_twice() {
+    let start = ready();
+    let mut b = start.clone();
+    assert_eq!(b.move_page(OLD, NEW), DONE);
+    assert_eq!(b.move_page(OLD, NEW), no(8));
+    assert_eq!(b.move_page(NEW, NEW), no(11));
+    assert_eq!(b.move_page(NEW, OLD), DONE);
+    assert_eq!(b, start);
+    assert_eq!(b.user_access(0, true, 1, 3, 50), done(0, REFILLED));
+    assert_eq!(b.step(&HAND_OVER), (DONE, moved(1, 1)));
+    assert_eq!(b.step(&Call::Move { page: NEW, new_page: 0x20_0001 }), (DONE, moved(0, 0)));
+    assert_eq!(b.words, [0, 0x20_0001 * 4 + 3, 0, 0]);
+    assert_eq!(b.user_access(0, false, 1, 4096 + 3, 0), done(50, REFILLED));
+}
+
+/// Slots aren't asked, nor changed: the supervisor's calls on pages ask none.
+#[test]
+fn move_without_segments() {
+    let mut b = ready();
+    assert_eq!(b.detach(0, 0), DONE);
+    let slots = b.slots.clone();
+    assert_eq!(b.move_page(OLD, 0xFFBF_FFFF), DONE);
+    assert_eq!(b.slots, slots);
+    // Attached read-only, later, the page is there.
+    assert_eq!(b.attach(1, 9, 4_190_207, false), DONE);
+    assert_eq!(b.user_access(1, false, 1, (10 << 22) - 1, 0), done(0, REFILLED));
+    assert_eq!(b.user_access(1, true, 1, (10 << 22) - 1, 0), no(7));
+}
+
+/// Decided: a pending tag is ignored and stays, of either page. The old page's is then of a page that isn't mapped; the new
+/// page's of one that is.
+#[test]
+fn move_with_a_tag_pending() {
+    for name in [OLD * 256 + 7, NEW * 256 + 7, 0x3000_0000] {
+        let mut b = importer_and_recorder();
+        assert_eq!(b.tag(name), DONE);
+        assert_eq!(b.move_page(OLD, NEW), DONE);
+        assert_eq!(b.tag, (true, name));
+        assert_eq!(b.user_access(1, false, 1, 0, 0), no(3));
+        if name / 256 == NEW {
+            assert_eq!(b.load_and_map(256 + 7), DONE);
+            assert_eq!(b.record(1), rec(name, 256 + 7, false, true));
+        } else {
+            assert_eq!(b.load_and_map(256 + 7), no(8));
+        }
+    }
 }

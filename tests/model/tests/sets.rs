@@ -169,6 +169,9 @@ fn what_is_no_use() {
         (as_it_is, Call::Detach { process: 0, slot: 0 }),
         // Drops, of lines that are changed too.
         (as_it_is, Call::Unmap { page: PAGE + 1 }),
+        (as_it_is, Call::Move { page: PAGE + 1, new_page: PAGE + 8 }),
+        (as_it_is, Call::Move { page: PAGE + 3, new_page: PAGE + 8 }),
+        (|b| put(b, 5, rec(name(8, 1), 300, true, true)), Call::Move { page: PAGE + 4, new_page: PAGE + 8 }),
         (as_it_is, Call::FlushAll),
         (|b| put(b, 5, rec(name(8, 1), 300, true, true)), map),
         (|b| put(b, 5, rec(prefix1_page(FREE_FRAME) * 256 + 1, 300, true, true)), map),
@@ -191,6 +194,9 @@ fn what_is_no_use() {
             if let Event::Mapped { by_page, by_prefix1 } = event {
                 assert_eq!(by_page + by_prefix1, 1, "{call:?}");
             }
+            if let Event::Moved { old_dropped, new_dropped, .. } = event {
+                assert_eq!(old_dropped + new_dropped, 1, "{call:?}");
+            }
         }
     }
     let b = full();
@@ -210,7 +216,7 @@ fn refused_calls() {
     let rows: Vec<(u32, Edit, Call)> = vec![
         (1, |b| b.cache.push(0), user(false, 0, 0)),
         (1, |b| b.uses.push(WILD), user(false, 0, 0)),
-        (1, |b| drop(b.uses.pop()), supervisor(false, PAGE * 4096, 0)),
+        (1, |b| assert!(b.uses.pop().is_some()), supervisor(false, PAGE * 4096, 0)),
         (2, as_it_is, user(true, 0, 65_536)),
         (2, as_it_is, supervisor(true, PAGE * 4096, 65_536)),
         (3, pending, user(false, 0, 0)),
@@ -233,6 +239,11 @@ fn refused_calls() {
         (11, as_it_is, Call::Map { page: PAGE, frame: 6, write: true }),
         (8, as_it_is, Call::Unmap { page: PAGE + 9 }),
         (8, as_it_is, Call::Protect { page: PAGE + 9, write: true }),
+        (1, |b| b.uses.push(WILD), Call::Move { page: PAGE, new_page: PAGE + 9 }),
+        (2, as_it_is, Call::Move { page: PAGE, new_page: 0x1F_FFFF }),
+        (8, as_it_is, Call::Move { page: PAGE + 9, new_page: PAGE + 9 }),
+        (11, as_it_is, Call::Move { page: PAGE, new_page: PAGE + 1 }),
+        (11, as_it_is, Call::Move { page: PAGE, new_page: PAGE }),
     ];
     for (number, edit, call) in rows {
         let mut b = full();
@@ -413,12 +424,61 @@ fn one_name_twice() {
         // A record of the name that holds nothing doesn't count.
         put(&mut c, low, rec(name(0, 0), 7 * 256, true, true));
         assert_eq!(c.user_access(0, false, 1, 0, 0), done(0x22, HIT));
-        // Both are dropped by unmap, both written back, by rising record.
+        // Both are dropped by unmap and by move, both written back, by rising record.
         put(&mut b, low, rec(name(0, 0), 300, true, true));
         put(&mut b, high, rec(name(0, 0), 300, true, true));
         let cache = b.cache[16 * high as usize..][..16].to_vec();
-        assert_eq!(b.step(&Call::Unmap { page: PAGE }).1, Event::Unmapped { written: 2, dropped: 2 });
-        assert_eq!(b.memory[300 * 16..301 * 16], cache[..]);
+        for (call, event) in [
+            (Call::Unmap { page: PAGE }, Event::Unmapped { written: 2, dropped: 2 }),
+            (
+                Call::Move { page: PAGE, new_page: PAGE + 8 },
+                Event::Moved { old_written: 2, old_dropped: 2, new_written: 0, new_dropped: 0 },
+            ),
+        ] {
+            let mut b = b.clone();
+            assert_eq!(b.step(&call).1, event);
+            assert_eq!(b.memory[300 * 16..301 * 16], cache[..]);
+        }
+    }
+}
+
+/// Move finds lines of both pages in one set, at any two of its lines: all are written back, by rising record, and dropped; the
+/// other two stay, and so does the matrix.
+#[test]
+fn move_in_one_set() {
+    for (old, new) in (0..4).flat_map(|old| (0..4).map(move |new| (old, new))).filter(|(old, new)| old != new) {
+        let mut b = with_held([true; 4], WILD);
+        put(&mut b, old, rec(name(0, 0), 300, true, true));
+        put(&mut b, new, rec(name(8, 2), 300, true, true));
+        (0..4).for_each(|at| paint(&mut b, at, 0x40 + at as u8));
+        let before = b.clone();
+        let event = Event::Moved { old_written: 1, old_dropped: 1, new_written: 1, new_dropped: 1 };
+        assert_eq!(b.step(&Call::Move { page: PAGE, new_page: PAGE + 8 }), (DONE, event));
+        assert_eq!(b.memory[300 * 16..301 * 16], [0x40 + old.max(new) as u8; 16], "{old} {new}");
+        for at in 0..4 {
+            let dropped = at == old || at == new;
+            assert_eq!(b.record(at), if dropped { Record::decode(0, 0) } else { before.record(at) }, "{old} {new}");
+        }
+        assert_eq!((b.uses, b.cache), (before.uses, before.cache), "{old} {new}");
+    }
+}
+
+/// After a move the set has its order still: the lines that are gone are filled first, the lowest first, whatever their rows say.
+#[test]
+fn a_set_after_a_move() {
+    let mut b = full();
+    assert_eq!(b.move_page(PAGE + 3, PAGE + 8), DONE);
+    assert_eq!(b.move_page(PAGE + 1, PAGE + 9), DONE);
+    // The moved page's line under its new name: into line 1, though line 0 was used first; then into line 3.
+    for (page, at) in [(8, 1), (9, 3)] {
+        let answer = b.supervisor_access(false, 1, (PAGE + page) * 4096, 0);
+        assert_eq!((answer.number, answer.mark), (0, REFILLED));
+        assert_eq!(b.holder(name(page, 0)), Some(at));
+    }
+    // By last uses the order is now lines 0, 2, 1, 3.
+    for line in [0, 2, 1, 3] {
+        assert_eq!(b.victim(0), line);
+        b.uses[0] = used(&b.uses[0], line as usize);
     }
 }
 
@@ -440,7 +500,7 @@ fn random_call(r: &mut Rng, b: &Board) -> Call {
     let (page, index) = (r.below(PAGES + 1), r.pick(&[0, 0, 1, 2, 4, 8]));
     let (store, within) = (page != READ_ONLY && r.flip(), index * 16);
     let supervisor = |global| Call::SupervisorAccess { store, width: 1, global, value: 3 };
-    match r.below(24) {
+    match r.below(25) {
         0 => Call::Unmap { page: PAGE + page },
         1 => Call::Map { page: PAGE + page, frame: 1 + r.below(PAGES), write: true },
         2 => Call::Protect { page: PAGE + page, write: page != READ_ONLY },
@@ -453,6 +513,7 @@ fn random_call(r: &mut Rng, b: &Board) -> Call {
         8 => Call::DropTag,
         9..=11 => supervisor((PAGE + page) * 4096 + within),
         12 => supervisor((1 << 32) + FREE_FRAME * 4096 + within),
+        13 => Call::Move { page: PAGE + page, new_page: PAGE + r.below(PAGES + 1) },
         _ => {
             let address = (page * 4096 + within) as u32;
             Call::UserAccess { process: 0, store, width: 1, address, value: 3 }
@@ -525,7 +586,7 @@ fn number_1() {
         |b| *b = Board { uses: vec![WILD], ..Board::fresh_of(Edition::Fours, shape(4, 1, 2, 2)) },
         |b| *b = Board::fresh_of(Edition::Fours, shape(4, 1, 2, 6)),
         |b| *b = Board::fresh_of(Edition::Fours, shape(4, 1, 2, 2 * LINES_MAX)),
-        |b| drop(b.uses.pop()),
+        |b| assert!(b.uses.pop().is_some()),
         |b| b.uses.push(FRESH_MATRIX),
         |b| b.uses.clear(),
         |b| b.uses.resize(8, FRESH_MATRIX),

@@ -6,6 +6,11 @@ use model::*;
 const PAGE: u64 = 0x20_0000;
 const NAME: u64 = 0x2000_0000;
 
+/// A move: how many lines of each page it wrote back, and how many it dropped.
+fn moved((old_written, old_dropped): (u64, u64), (new_written, new_dropped): (u64, u64)) -> Event {
+    Event::Moved { old_written, old_dropped, new_written, new_dropped }
+}
+
 /// Records that don't hold: not valid, not at their place, physical line outside memory.
 fn strays() -> Vec<(u64, Record)> {
     vec![
@@ -28,10 +33,14 @@ fn stray_records_count_as_empty() {
 
         // Look passes over it.
         assert_eq!(b.look(256), (0, vec![0; 16]));
-        // Flush, protect and map leave it as it is and write nothing.
+        // Flush, protect, move, unmap and map leave it as it is and write nothing.
         assert_eq!(b.step(&Call::FlushAll), (DONE, Event::Flushed { written: 0, dropped: 0 }));
         assert_eq!(b, start);
         assert_eq!(b.step(&Call::Protect { page: PAGE, write: true }), (DONE, Event::Protected { lines: 0 }));
+        assert_eq!(b, start);
+        // The old page's, and the new one's.
+        assert_eq!(b.step(&Call::Move { page: PAGE, new_page: PAGE + 1 }), (DONE, moved((0, 0), (0, 0))));
+        assert_eq!(b.step(&Call::Move { page: PAGE + 1, new_page: PAGE }), (DONE, moved((0, 0), (0, 0))));
         assert_eq!(b, start);
         let (_, e) = b.step(&Call::Unmap { page: PAGE });
         assert_eq!(e, Event::Unmapped { written: 0, dropped: 0 });
@@ -115,6 +124,10 @@ fn odd_names_are_held() {
         let mut c = b.clone();
         assert_eq!(c.step(&Call::Protect { page: PAGE, write: true }).1, Event::Protected { lines: 0 });
         assert_eq!(c.records, b.records);
+        for (page, new_page) in [(PAGE, PAGE + 1), (PAGE + 1, PAGE)] {
+            assert_eq!(c.step(&Call::Move { page, new_page }).1, moved((0, 0), (0, 0)));
+            assert_eq!(c.records, b.records);
+        }
         assert_eq!(b.step(&Call::FlushAll).1, Event::Flushed { written: 1, dropped: 1 });
         assert_eq!(b.memory[4800..4816], [0x66; 16]);
         assert_eq!(b.records, vec![0; 4]);
@@ -167,6 +180,42 @@ fn doubled_page() {
     assert_eq!(b.map(PAGE, 2, true), DONE);
 }
 
+/// Move of a doubled page: the lowest frame from U up gets the new page, with that frame's write bit; the next one has the old
+/// page then, and is moved next.
+#[test]
+fn doubled_page_moved() {
+    let mut b = ready();
+    b.words = vec![frame_word(PAGE, true), frame_word(PAGE + 1, true), frame_word(PAGE, false), frame_word(PAGE, true)];
+    // Lines of the page, in both frames: all of them are written back, each to its own.
+    put(&mut b, 0, rec(NAME, 512, true, false));
+    put(&mut b, 1, rec(NAME + 1, 768 + 1, true, true));
+    paint(&mut b, 0, 0x10);
+    paint(&mut b, 1, 0x20);
+    assert_eq!(b.step(&Call::Move { page: PAGE, new_page: PAGE + 2 }), (DONE, moved((2, 2), (0, 0))));
+    assert_eq!(b.words[..2], [frame_word(PAGE, true), frame_word(PAGE + 1, true)]);
+    assert_eq!(b.words[2..], [(PAGE + 2) * 4 + 1, PAGE * 4 + 3]);
+    assert_eq!((b.memory[512 * 16], b.memory[(768 + 1) * 16]), (0x10, 0x20));
+    assert_eq!(b.supervisor_access(false, 1, (PAGE + 2) * 4096, 0), done(0x10, REFILLED));
+    assert_eq!(b.user_access(0, false, 1, 16, 0), done(0x20, REFILLED));
+    assert_eq!(b.move_page(PAGE, PAGE + 2), no(11));
+    assert_eq!(b.move_page(PAGE, PAGE + 3), DONE);
+    assert_eq!(b.words[2..], [(PAGE + 2) * 4 + 1, (PAGE + 3) * 4 + 3]);
+    // What stands below U is no mapping.
+    assert_eq!(b.move_page(PAGE, PAGE + 4), no(8));
+    assert_eq!(b.move_page(PAGE + 3, PAGE), DONE);
+    assert_eq!(b.words[3], PAGE * 4 + 3);
+}
+
+/// A new page that is doubled is mapped.
+#[test]
+fn moved_to_a_doubled_page() {
+    let mut b = ready();
+    b.words[2..].fill(frame_word(PAGE + 1, false));
+    let before = b.clone();
+    assert_eq!(b.move_page(PAGE, PAGE + 1), no(11));
+    assert_eq!(b, before);
+}
+
 /// Words of no exact form, or of pages that are not ordinary, map nothing and are not free.
 #[test]
 fn odd_words() {
@@ -178,6 +227,13 @@ fn odd_words() {
         assert_eq!(b.user_access(0, false, 1, 0, 0), no(8), "{word}");
         assert_eq!(b.unmap(PAGE), no(8));
         assert_eq!(b.protect(PAGE, true), no(8));
+        assert_eq!(b.move_page(PAGE, PAGE + 1), no(8));
+        assert_eq!(b.move_page(PAGE, PAGE), no(8));
+        // As the new page it isn't mapped either.
+        let mut c = b.clone();
+        c.words[3] = frame_word(PAGE + 1, false);
+        assert_eq!(c.move_page(PAGE + 1, PAGE), DONE);
+        assert_eq!(c.words, [0, word, 0, PAGE * 4 + 1]);
         assert_eq!(b.map(PAGE, 1, true), no(10));
         assert_eq!(b.supervisor_access(false, 1, 0x1_0000_1000, 0), no(10));
         assert_eq!(b.map(PAGE, 2, true), DONE);
@@ -269,6 +325,127 @@ fn unmap_leaves_tag_and_uses_own_lines() {
     assert_eq!(b.memory[48..64], [0x77; 16]);
     assert_eq!(b.tag, (true, NAME));
     assert_eq!(b.load_and_map(256), no(8));
+}
+
+/// "and those of the new name": held lines of a page that isn't mapped, changed or not, whatever their permission. They go to
+/// their own physical lines and are dropped, as the old page's are.
+#[test]
+fn move_takes_lines_of_the_new_page() {
+    for (old_changed, new_changed) in [(false, false), (false, true), (true, false), (true, true)] {
+        let mut b = ready();
+        put(&mut b, 0, rec(NAME + 4, 3, old_changed, false));
+        put(&mut b, 1, rec(NAME + 256 + 7, 900, new_changed, true));
+        paint(&mut b, 0, 0x10);
+        paint(&mut b, 1, 0x20);
+        let (mut memory, cache) = (b.memory.clone(), b.cache.clone());
+        let event = moved((u64::from(old_changed), 1), (u64::from(new_changed), 1));
+        assert_eq!(b.step(&Call::Move { page: PAGE, new_page: PAGE + 1 }), (DONE, event));
+        if old_changed {
+            memory[3 * 16..4 * 16].fill(0x10);
+        }
+        if new_changed {
+            memory[900 * 16..901 * 16].fill(0x20);
+        }
+        assert_eq!((b.memory, b.cache, b.records), (memory, cache, vec![0; 4]));
+        assert_eq!(b.words, [0, frame_word(PAGE + 1, true), 0, 0]);
+    }
+}
+
+/// One physical line under both names, in both orders: the higher record's bytes stand in memory, if it is changed; then the new
+/// page shows them, where the line is of its frame.
+#[test]
+fn move_with_one_line_under_both_names() {
+    // The names' places are 0 and 1; which of them is changed; the byte that stands in memory.
+    for (low, high, byte) in [(true, true, 0x20), (true, false, 0x10), (false, true, 0x20), (false, false, 0)] {
+        for (page, new_page) in [(PAGE, PAGE + 1), (PAGE + 1, PAGE)] {
+            let mut b = ready();
+            b.words[1] = frame_word(page, true);
+            put(&mut b, 0, rec(NAME + 2, 258, low, true));
+            put(&mut b, 1, rec(NAME + 256 + 3, 258, high, true));
+            paint(&mut b, 0, 0x10);
+            paint(&mut b, 1, 0x20);
+            // The lower record is of PAGE.
+            let (lower, higher) = ((u64::from(low), 1), (u64::from(high), 1));
+            let event = if page == PAGE { moved(lower, higher) } else { moved(higher, lower) };
+            assert_eq!(b.step(&Call::Move { page, new_page }), (DONE, event));
+            assert_eq!(b.look(258), (0, vec![byte; 16]), "{low} {high} {page:#x}");
+            assert_eq!(b.memory[258 * 16..259 * 16], [byte; 16]);
+            assert_eq!(b.supervisor_access(false, 1, new_page * 4096 + 32, 0), done(byte.into(), REFILLED));
+        }
+    }
+}
+
+/// Move drops by name only: lines of other names with a physical line in the frame stay, the frame's prefix 1 lines too, changed
+/// as they are.
+#[test]
+fn move_drops_by_name_only() {
+    let mut b = Board::fresh(shape(4, 1, 1, 4));
+    b.memory.fill(7);
+    b.words[1] = frame_word(PAGE, false);
+    put(&mut b, 0, rec(NAME, 300, true, true)); // named in the old page
+    put(&mut b, 1, rec(0x1000_0101, 257, true, true)); // prefix 1 name of the page's frame, in it
+    put(&mut b, 2, rec(0x3000_0002, 258, true, true)); // in the frame, another name
+    put(&mut b, 3, rec(NAME + 256 + 3, 515, true, false)); // named in the new page, elsewhere
+    for place in 0..4 {
+        paint(&mut b, place, 0x90 + place as u8);
+    }
+    let before = b.clone();
+    assert_eq!(b.step(&Call::Move { page: PAGE, new_page: PAGE + 1 }), (DONE, moved((1, 1), (1, 1))));
+    assert_eq!((&b.records[..2], &b.records[6..]), (&[0; 2][..], &[0; 2][..]));
+    assert_eq!(b.records[2..6], before.records[2..6]);
+    assert_eq!(b.cache, before.cache);
+    for (line, bytes) in b.memory.chunks(16).enumerate() {
+        let byte = match line {
+            300 => 0x90,
+            515 => 0x93,
+            _ => 7,
+        };
+        assert_eq!(bytes, [byte; 16], "line {line}");
+    }
+    assert_eq!(b.words, [0, frame_word(PAGE + 1, false), 0, 0]);
+    // Line 257 is the page's second one, which has the prefix 1 line's place: that is written back before the fill.
+    assert_eq!(b.supervisor_access(false, 1, (PAGE + 1) * 4096 + 16, 0), done(0x91, WROTE_BACK));
+}
+
+/// The write bit is the word's, whatever permission the lines have.
+#[test]
+fn move_asks_the_word_for_the_write_bit() {
+    for write in [false, true] {
+        let mut b = ready();
+        b.words[1] = frame_word(PAGE, write);
+        put(&mut b, 0, rec(NAME, 256, true, !write));
+        put(&mut b, 1, rec(NAME + 256 + 1, 257, false, !write));
+        assert_eq!(b.step(&Call::Move { page: PAGE, new_page: PAGE + 1 }), (DONE, moved((1, 1), (0, 1))));
+        assert_eq!(b.words[1], (PAGE + 1) * 4 + if write { 3 } else { 1 });
+        let store = b.user_access(0, true, 1, 4096 + 16, 5);
+        assert_eq!(store, if write { done(0, REFILLED) } else { no(9) });
+    }
+}
+
+/// Any pending tag is ignored and stays as it is, one of no name that tag takes as well; so does what stands where none pends.
+#[test]
+fn move_leaves_the_tag() {
+    for tag in [(true, NAME), (true, NAME + 256), (true, 0), (true, u64::MAX), (false, u64::MAX), (false, NAME)] {
+        let mut b = ready();
+        b.tag = tag;
+        assert_eq!(b.move_page(PAGE, PAGE + 1), DONE);
+        assert_eq!(b.tag, tag);
+        assert_eq!(b.move_page(PAGE, PAGE + 1), no(8));
+        assert_eq!(b.move_page(PAGE + 1, PAGE + 1), no(11));
+        assert_eq!(b.tag, tag);
+    }
+}
+
+/// A hit without mapping is gone with the move: a held line of the new page decided what was seen there, and no longer does.
+#[test]
+fn move_uncovers_the_frame() {
+    let mut b = ready();
+    put(&mut b, 0, rec(NAME + 256, 300, false, true));
+    paint(&mut b, 0, 0x66);
+    assert_eq!(b.user_access(0, false, 1, 4096, 0), done(0x66, HIT));
+    assert_eq!(b.move_page(PAGE, PAGE + 1), DONE);
+    // Map's zeros.
+    assert_eq!(b.user_access(0, false, 1, 4096, 0), done(0, REFILLED));
 }
 
 /// Prefix 1 and write permission: 9 is for users, so a held prefix 1 line without it takes stores.
@@ -365,7 +542,7 @@ fn wild_call(r: &mut Rng, b: &Board) -> Call {
     let width = if r.chance(30) { r.next() as u32 } else { r.pick(&[1, 1, 1, 2, 4]) };
     let value = r.value(width);
     let within = r.pick(&[0, 1, 2, 3, 8, 255]) * 16 + r.below(16);
-    match r.below(14) {
+    match r.below(15) {
         0..=3 => {
             let process = r.below(b.shape.processes);
             let process = huge(r, process);
@@ -394,7 +571,8 @@ fn wild_call(r: &mut Rng, b: &Board) -> Call {
         }
         10 => Call::Unmap { page: wild_page(r) },
         11 => Call::Protect { page: wild_page(r), write: r.flip() },
-        12 => {
+        12 => Call::Move { page: wild_page(r), new_page: wild_page(r) },
+        13 => {
             if r.flip() {
                 Call::FlushAll
             } else {
@@ -416,6 +594,51 @@ fn wild_call(r: &mut Rng, b: &Board) -> Call {
     }
 }
 
+/// What moves met on wild boards.
+#[derive(Debug, Default)]
+struct Moves {
+    done: u32,
+    old_lines: u32,
+    new_lines: u32,
+    both: u32,
+    doubled: u32,
+}
+
+impl Moves {
+    /// CR 9, seen from outside: one word changes, by its page alone; lines of neither page are held; other records stay; memory
+    /// has what the changed lines of both pages had, the highest record's last.
+    fn add(&mut self, before: &Board, call: &Call, after: &Board) {
+        let &Call::Move { page, new_page } = call else { unreachable!("{call:?}") };
+        let of = |word: u64, page: u64| word / 4 == page && word % 2 == 1;
+        let mut words = before.words.clone();
+        let mut frames = (before.shape.uncached..before.shape.frames).filter(|&frame| of(words[frame as usize], page));
+        let frame = frames.next().expect("it is mapped") as usize;
+        self.doubled += u32::from(frames.next().is_some());
+        words[frame] = words[frame] - 4 * page + 4 * new_page;
+        assert_eq!(after.words, words, "{call:?}");
+
+        let (mut memory, mut lines) = (before.memory.clone(), [0, 0]);
+        for place in 0..before.shape.lines {
+            let record = before.held(place).filter(|record| [page, new_page].contains(&(record.name / 256)));
+            let Some(record) = record else {
+                assert_eq!(after.record(place), before.record(place), "{call:?}");
+                continue;
+            };
+            lines[usize::from(record.name / 256 == new_page)] += 1;
+            assert_eq!(after.records[2 * place as usize..][..2], [0, 0], "{call:?}");
+            if record.changed {
+                let (line, at) = (16 * record.line as usize, 16 * place as usize);
+                memory[line..line + 16].copy_from_slice(&before.cache[at..at + 16]);
+            }
+        }
+        assert_eq!((&after.memory, &after.cache), (&memory, &before.cache), "{call:?}");
+        self.done += 1;
+        self.old_lines += u32::from(lines[0] > 0);
+        self.new_lines += u32::from(lines[1] > 0);
+        self.both += u32::from(lines[0] > 0 && lines[1] > 0);
+    }
+}
+
 /// Laws that 01 states and that can be seen from outside, on random wild boards.
 #[test]
 fn laws_on_random_wild_boards() {
@@ -423,6 +646,7 @@ fn laws_on_random_wild_boards() {
     let mut seen = [0u32; 14];
     let mut beside = [0u32; 14];
     let mut marks = [[0u32; 5]; 2];
+    let mut moves = Moves::default();
     for _ in 0..4_000 {
         let mut b = wild_board(&mut r);
         for _ in 0..8 {
@@ -446,7 +670,7 @@ fn laws_on_random_wild_boards() {
             if !matches!(call, Call::Attach { .. } | Call::Detach { .. }) {
                 assert_eq!(b.slots, before.slots);
             }
-            if !matches!(call, Call::Map { .. } | Call::Unmap { .. } | Call::Protect { .. }) {
+            if !matches!(call, Call::Map { .. } | Call::Unmap { .. } | Call::Protect { .. } | Call::Move { .. }) {
                 assert_eq!(b.words, before.words);
             }
             if !matches!(call, Call::Tag { .. } | Call::LoadAndMap { .. } | Call::DropTag) {
@@ -525,6 +749,7 @@ fn laws_on_random_wild_boards() {
                 Event::Unmapped { .. } | Event::Mapped { .. } => assert_eq!(b.cache, before.cache),
                 Event::Protected { .. } => assert_eq!((&b.cache, &b.memory), (&before.cache, &before.memory)),
                 Event::Uncached => assert_eq!((&b.cache, &b.records), (&before.cache, &before.records)),
+                Event::Moved { .. } => moves.add(&before, &call, &b),
                 _ => {}
             }
         }
@@ -532,6 +757,9 @@ fn laws_on_random_wild_boards() {
     // Number 1 has its own tests; every other number has been met, those of an access beside a value that does not fit too.
     assert!(seen.iter().enumerate().all(|(n, &count)| n == 1 || count > 0), "{seen:?}");
     assert!(beside.iter().enumerate().all(|(n, &count)| matches!(n, 1 | 11 | 13) || count > 0), "{beside:?}");
+    // Moves have met lines of either page, and both; doubled pages.
+    let Moves { done, old_lines, new_lines, both, doubled } = moves;
+    assert!([done, old_lines, new_lines, both, doubled].iter().all(|&count| count > 0), "{moves:?}");
     // So has every mark that a done load or store may have; 0 is none of them.
     assert!(marks.iter().all(|counts| counts[0] == 0 && counts[1..].iter().all(|&count| count > 0)), "{marks:?}");
 }

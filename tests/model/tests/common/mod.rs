@@ -107,6 +107,7 @@ pub fn every_call() -> Vec<Call> {
         Call::Map { page: 0x20_0001, frame: 2, write: true },
         Call::Unmap { page: 0x20_0000 },
         Call::Protect { page: 0x20_0000, write: false },
+        Call::Move { page: 0x20_0000, new_page: 0x20_0001 },
         Call::FlushAll,
         Call::Tag { name: 0x2000_0000 },
         Call::LoadAndMap { line: 256 },
