@@ -2,8 +2,8 @@
 //!
 //! A case is named `fresh` if a sequence of calls from a fresh board reaches it, and then it must be reached on such a board.
 //! `wild` are those that need a board no sequence reaches, or numbers and lengths that disagree: held lines of a page that is
-//! not mapped or mapped elsewhere (unmap drops a page's lines, and map refuses a mapped page), held prefix 1 lines of a frame
-//! in use (map drops them), a line held under two names, names that no access fills, doubled pages, records that hold nothing
+//! not mapped or mapped elsewhere (unmap and move drop a page's lines, and map refuses a mapped page), held prefix 1 lines of a
+//! frame in use (map drops them), a line held under two names, names that no access fills, doubled pages, records that hold nothing
 //! but are valid, slot words outside the range, and number 1.
 
 use crate::coverage::Sort;

@@ -1,6 +1,6 @@
-//! What was reached: each refusal number of each call, each case, each route of each call, each mark of each call by each route,
-//! each call at the limits of P and L, each value at the end of a width beside each number, each sight at a page's places, what
-//! lists meet, what is met in sets of four, and logs; and what must be: in each edition by itself, but for logs.
+//! What was reached: each refusal number and each mark of each call by each route, each case, each call at the limits of P and L,
+//! each value at the end of a width beside each number, each sight at a page's places, what moves and lists meet, what is met in
+//! sets of four, and logs; and what must be: in each edition by itself, but for logs.
 
 use crate::cases::{Case, CASES};
 use crate::gen;
@@ -9,6 +9,7 @@ use crate::list_runs::CAUSES;
 use crate::lists::{self, Reached, Tally, ENDS, SPOTS};
 use crate::log_sights::Logs;
 use crate::marks::{self, MARKED, OUTCOMES};
+use crate::moves;
 use crate::routes::{Route, ROUTES};
 use crate::sets::{self, By};
 use crate::sights::{Sight, Size, Sweep, SIGHTS, SIZES, SWEEPS};
@@ -49,8 +50,8 @@ impl fmt::Display for Sort {
 /// The numbers end here.
 const NUMBERS: usize = 14;
 
-/// Each call with the numbers that it may give: by 01, an entry by CR 5, a list by CR 12.
-pub const KINDS: [(&str, &[u32]); 15] = [
+/// Each call with the numbers that it may give: by 01, move by CR 9, an entry by CR 5, a list by CR 12.
+pub const KINDS: [(&str, &[u32]); 16] = [
     ("user access", &[0, 1, 2, 3, 4, 5, 6, 7, 8, 9]),
     ("supervisor access", &[0, 1, 2, 3, 4, 8, 10, 12]),
     ("attach", &[0, 1, 2]),
@@ -58,6 +59,7 @@ pub const KINDS: [(&str, &[u32]); 15] = [
     ("map", &[0, 1, 2, 10, 11]),
     ("unmap", &[0, 1, 2, 8]),
     ("protect", &[0, 1, 2, 8]),
+    ("move", &[0, 1, 2, 8, 11]),
     ("flush all", &[0, 1]),
     ("tag", &[0, 1, 2, 3]),
     ("load-and-map", &[0, 1, 2, 3, 8, 13]),
@@ -69,9 +71,9 @@ pub const KINDS: [(&str, &[u32]); 15] = [
 ];
 
 /// The lists among them; where the looks begin, and where the entries.
-const LISTS: usize = 11;
-const LOOKS: usize = 12;
-const ENTRIES: usize = 14;
+const LISTS: usize = 12;
+const LOOKS: usize = 13;
+const ENTRIES: usize = 15;
 
 /// The row of a deed in `KINDS`; what is done with logs is counted apart, and an audit is no call.
 fn row_of(deed: &Deed) -> Option<usize> {
@@ -83,10 +85,11 @@ fn row_of(deed: &Deed) -> Option<usize> {
         Deed::Call(Call::Map { .. }) => 4,
         Deed::Call(Call::Unmap { .. }) => 5,
         Deed::Call(Call::Protect { .. }) => 6,
-        Deed::Call(Call::FlushAll) => 7,
-        Deed::Call(Call::Tag { .. }) => 8,
-        Deed::Call(Call::LoadAndMap { .. }) => 9,
-        Deed::Call(Call::DropTag) => 10,
+        Deed::Call(Call::Move { .. }) => 7,
+        Deed::Call(Call::FlushAll) => 8,
+        Deed::Call(Call::Tag { .. }) => 9,
+        Deed::Call(Call::LoadAndMap { .. }) => 10,
+        Deed::Call(Call::DropTag) => 11,
         Deed::List(_) => LISTS,
         Deed::Look { .. } => LOOKS,
         Deed::LookNumber { .. } => LOOKS + 1,
@@ -165,6 +168,8 @@ pub enum Planned {
     Values,
     /// Of `places.rs`.
     Places,
+    /// Of `moves.rs`.
+    Moves,
     /// Of `list_runs.rs`.
     Lists,
     /// Of `set_runs.rs`.
@@ -188,7 +193,8 @@ pub fn in_table_of_items(number: u32) -> bool {
 /// Counts of one sort of boards.
 #[derive(Clone)]
 struct Counts {
-    numbers: [[u64; NUMBERS]; KINDS.len()],
+    /// The numbers of each call, by each route, in random runs.
+    numbers: [[[u64; NUMBERS]; KINDS.len()]; ROUTES.len()],
     cases: [u64; CASES.len()],
     /// The pages of `ENTRY_PAGES` by each route.
     entries: [[u64; ENTRY_PAGES.len()]; ROUTES.len()],
@@ -200,26 +206,69 @@ struct Counts {
     values: [[[[u64; VALUES.len()]; WIDTHS.len()]; ROWS.len()]; ROUTES.len()],
     /// The sweeps by each route, with each of `SIZES`, that met each of `SIGHTS`.
     sights: [[[[u64; SIGHTS.len()]; SIZES.len()]; SWEEPS.len()]; ROUTES.len()],
+    /// What moves met, and what was met after them.
+    moves: [moves::Counts; ROUTES.len()],
     lists: [ListCounts; ROUTES.len()],
     /// What was met in sets of four.
     sets: [sets::Counts; ROUTES.len()],
-    /// The calls by each route, in random runs.
-    routes: [[u64; KINDS.len()]; ROUTES.len()],
     pairs: PairCounts,
-    /// Audits of boards, and the looks in them.
+    /// Audits of boards, the looks in them, and those after a move.
     audits: u64,
     audit_looks: u64,
+    audits_after_move: u64,
 }
 
 /// Pairs of runs, and those in which a mark of the process differed, because the others' accesses did move its lines: a hit in one
-/// run only; a refill in both, with a write-back in one only. And those in which a list with accesses of the process had other
-/// accesses of the others.
+/// run only; a refill in both, with a write-back in one only. Those in which a list with accesses of the process had other
+/// accesses of the others. And those in which a page was moved into a segment of the process: out of the same; out of another of its
+/// segments; out of one that it never holds, with the same bytes in both runs: also before the process holds the segment for the
+/// first time, and with other lines of it held or changed in the second run.
 #[derive(Clone, Copy)]
 pub struct PairCounts {
     pub pairs: u64,
     pub hit: u64,
     pub write_back: u64,
     pub list: u64,
+    pub within: u64,
+    pub between: u64,
+    pub same_bytes: u64,
+    pub later: u64,
+    pub other_lines: u64,
+}
+
+impl PairCounts {
+    pub const NONE: PairCounts = PairCounts {
+        pairs: 0,
+        hit: 0,
+        write_back: 0,
+        list: 0,
+        within: 0,
+        between: 0,
+        same_bytes: 0,
+        later: 0,
+        other_lines: 0,
+    };
+
+    pub fn add(&mut self, mut more: PairCounts) {
+        self.pairs += more.pairs;
+        for ((_, count), (_, more)) in self.each().into_iter().zip(more.each()) {
+            *count += *more;
+        }
+    }
+
+    /// Each count of pairs with something, in words.
+    pub fn each(&mut self) -> [(&'static str, &mut u64); 8] {
+        [
+            ("with a hit in one only", &mut self.hit),
+            ("with a refill's write-back in one only", &mut self.write_back),
+            ("with a list in which the others' accesses differ", &mut self.list),
+            ("with a page moved within a segment of the process", &mut self.within),
+            ("with a page moved from one of its segments into another", &mut self.between),
+            ("with a page moved into one from a segment that it never holds", &mut self.same_bytes),
+            ("with such a page moved before it holds the segment", &mut self.later),
+            ("with such a page of which other lines are held in one, or changed", &mut self.other_lines),
+        ]
+    }
 }
 
 /// Counts of lists, by one route.
@@ -237,19 +286,20 @@ const NO_LISTS: ListCounts =
     ListCounts { ends: [[0; ENDS.len()]; SPOTS.len()], sights: [0; lists::SIGHTS.len()], causes: [0; CAUSES.len()] };
 
 const NONE: Counts = Counts {
-    numbers: [[0; NUMBERS]; KINDS.len()],
+    numbers: [[[0; NUMBERS]; KINDS.len()]; ROUTES.len()],
     cases: [0; CASES.len()],
     entries: [[0; ENTRY_PAGES.len()]; ROUTES.len()],
     marks: [[[0; OUTCOMES.len()]; MARKED.len()]; ROUTES.len()],
     edges: [[[0; ENTRIES]; ROUTES.len()]; EDGES.len()],
     values: [[[[0; VALUES.len()]; WIDTHS.len()]; ROWS.len()]; ROUTES.len()],
     sights: [[[[0; SIGHTS.len()]; SIZES.len()]; SWEEPS.len()]; ROUTES.len()],
+    moves: [moves::Counts::NONE; ROUTES.len()],
     lists: [NO_LISTS; ROUTES.len()],
     sets: [sets::Counts::NONE; ROUTES.len()],
-    routes: [[0; KINDS.len()]; ROUTES.len()],
-    pairs: PairCounts { pairs: 0, hit: 0, write_back: 0, list: 0 },
+    pairs: PairCounts::NONE,
     audits: 0,
     audit_looks: 0,
+    audits_after_move: 0,
 };
 
 #[derive(Clone)]
@@ -284,6 +334,18 @@ impl Coverage {
                 counts.sights[route as usize][*sweep as usize][size as usize][sight as usize] += 1;
             }
         }
+    }
+
+    /// A call, if it is a move, and what it met of moves, in whatever run.
+    pub fn count_move(&mut self, sort: Sort, route: Route, call: &Call, number: u32, sights: &[moves::Sight]) {
+        if let Call::Move { page, new_page } = *call {
+            self.of(sort).moves[route as usize].count_ends(page, new_page, number);
+        }
+        self.count_move_met(sort, route, sights);
+    }
+
+    pub fn count_move_met(&mut self, sort: Sort, route: Route, sights: &[moves::Sight]) {
+        self.of(sort).moves[route as usize].count(sights);
     }
 
     /// What was met in a set of four, in whatever run; and which change of its matrix it was.
@@ -323,11 +385,8 @@ impl Coverage {
                     counts.edges[edge][route as usize][row] += 1;
                 }
             }
-            Some(Planned::Values | Planned::Places | Planned::Lists | Planned::Sets) => {}
-            None => {
-                counts.numbers[row][number as usize] += 1;
-                counts.routes[route as usize][row] += 1;
-            }
+            Some(Planned::Values | Planned::Places | Planned::Moves | Planned::Lists | Planned::Sets) => {}
+            None => counts.numbers[route as usize][row][number as usize] += 1,
         }
     }
 
@@ -349,12 +408,13 @@ impl Coverage {
         }
     }
 
-    /// An audit with so many looks.
-    pub fn count_audit(&mut self, sort: Sort, looks: u64) {
+    /// An audit with so many looks, after a move or not.
+    pub fn count_audit(&mut self, sort: Sort, looks: u64, moved: bool) {
         if self.planned.is_none() {
             let counts = self.of(sort);
             counts.audits += 1;
             counts.audit_looks += looks;
+            counts.audits_after_move += u64::from(moved);
         }
     }
 
@@ -370,8 +430,8 @@ impl Coverage {
     }
 
     fn count_of_rows(&self, rows: std::ops::Range<usize>) -> u64 {
-        let of_row = |row: usize| self.sorts.iter().flat_map(move |counts| counts.numbers[row]).sum::<u64>();
-        rows.map(of_row).sum()
+        let by_route = self.sorts.iter().flat_map(|counts| &counts.numbers);
+        by_route.flat_map(|counts| &counts[rows.clone()]).flatten().sum()
     }
 
     /// The calls of 01, looks and entries not among them.
@@ -424,12 +484,13 @@ impl Coverage {
         for (row, (call, table)) in KINDS.iter().enumerate() {
             write!(text, "{call:18}").expect(line);
             for number in 0..NUMBERS {
-                let count: u64 = self.sorts.iter().map(|counts| counts.numbers[row][number]).sum();
+                let by_route = self.sorts.iter().flat_map(|counts| &counts.numbers);
+                let count: u64 = by_route.map(|counts| counts[row][number]).sum();
                 let shown = if table.contains(&(number as u32)) { count.to_string() } else { ".".into() };
                 write!(text, "{shown:>7}").expect(line);
             }
             for route in 0..ROUTES.len() {
-                let count: u64 = self.sorts.iter().map(|counts| counts.routes[route][row]).sum();
+                let count: u64 = self.sorts.iter().flat_map(|counts| counts.numbers[route][row]).sum();
                 write!(text, "{count:>8}").expect(line);
             }
             text.push('\n');
@@ -457,6 +518,10 @@ impl Coverage {
             let met =
                 |counts: &Counts| counts.sights.iter().flatten().flatten().map(|counts| counts[index]).sum::<u64>();
             self.row(&mut text, words, met);
+        }
+        writeln!(text, "\n{heads}  moves").expect(line);
+        for (index, (_, _, words)) in moves::SIGHTS.iter().enumerate() {
+            self.row(&mut text, words, |counts| counts.moves.iter().map(|counts| counts.sights[index]).sum::<u64>());
         }
         writeln!(text, "\n  alone  first middle   last  accesses in lists").expect(line);
         for (index, end) in ENDS.iter().enumerate() {
@@ -492,10 +557,12 @@ impl Counts {
     /// What must be reached on boards of this sort.
     fn each_required(&mut self, sort: Sort, see: &mut impl FnMut(Arguments, &mut u64)) {
         let Sort { edition, fresh } = sort;
-        for (row, (counts, (call, table))) in self.numbers.iter_mut().zip(&KINDS).enumerate() {
-            for (number, count) in counts.iter_mut().enumerate() {
-                if table.contains(&(number as u32)) && (number != 1 || !fresh || row == LISTS) {
-                    see(format_args!("{call}, number {number}, on {sort}"), count);
+        for (counts, (_, route)) in self.numbers.iter_mut().zip(&ROUTES) {
+            for (row, (counts, (call, table))) in counts.iter_mut().zip(&KINDS).enumerate() {
+                for (number, count) in counts.iter_mut().enumerate() {
+                    if table.contains(&(number as u32)) && (number != 1 || !fresh || row == LISTS) {
+                        see(format_args!("{call}, number {number}, by the {route} route, on {sort}"), count);
+                    }
                 }
             }
         }
@@ -508,6 +575,12 @@ impl Counts {
             for (count, page) in counts.iter_mut().zip(ENTRY_PAGES) {
                 see(format_args!("the entry of page {page:#x} by the {route} route, on {sort}"), count);
             }
+        }
+        for (counts, (_, route)) in self.moves.iter_mut().zip(ROUTES) {
+            let mut see = |words: Arguments, count: &mut u64| {
+                see(format_args!("{words}, by the {route} route, on {sort}"), count);
+            };
+            counts.each_required(fresh, &mut see);
         }
         for (counts, (_, route)) in self.marks.iter_mut().zip(&ROUTES) {
             for (row, (counts, (call, _))) in counts.iter_mut().zip(&MARKED).enumerate() {
@@ -571,18 +644,13 @@ impl Counts {
                 counts.each_required(fresh, &mut see);
             }
         }
-        for (row, (_, route)) in self.routes.iter_mut().zip(&ROUTES) {
-            for (count, (call, _)) in row.iter_mut().zip(&KINDS) {
-                see(format_args!("{call} by the {route} route, on {sort}"), count);
-            }
-        }
         if fresh {
-            let PairCounts { pairs, hit, write_back, list } = &mut self.pairs;
             see(format_args!("an audit of {sort}"), &mut self.audits);
-            see(format_args!("a pair of runs from {sort}"), pairs);
-            see(format_args!("a pair of runs from {sort} with a hit in one only"), hit);
-            see(format_args!("a pair of runs from {sort} with a refill's write-back in one only"), write_back);
-            see(format_args!("a pair of runs from {sort} with a list in which the others' accesses differ"), list);
+            see(format_args!("an audit of {sort} after a move"), &mut self.audits_after_move);
+            see(format_args!("a pair of runs from {sort}"), &mut self.pairs.pairs);
+            for (words, count) in self.pairs.each() {
+                see(format_args!("a pair of runs from {sort} {words}"), count);
+            }
         }
     }
 }

@@ -16,7 +16,9 @@ use model::{Board, Call, Edition, Shape, NO_TAG};
 const FRAMES: u64 = 4;
 
 /// The last page, in the last frame, by the last process and slot: with the most lines, the page's last line has the last place.
+/// It is moved to the first one, and back.
 const PAGE: u64 = PAGE_LAST;
+const NEW_PAGE: u64 = PAGE_FIRST;
 const FRAME: u64 = FRAMES - 1;
 const NAME: u64 = PAGE * LINES_PER_PAGE + LINES_PER_PAGE - 1;
 const LINE: u64 = FRAME * LINES_PER_PAGE + LINES_PER_PAGE - 1;
@@ -24,8 +26,8 @@ const SLOT: u64 = SLOTS - 1;
 const ADDRESS: u32 = USER_END - 4;
 const GLOBAL: u64 = PAGE * PAGE_BYTES + PAGE_BYTES - 4;
 
-/// Every call and look, in an order in which all are done where the numbers are taken. `FRAME` has to be free, and `PAGE`
-/// mapped nowhere.
+/// Every call and look, in an order in which all are done where the numbers are taken. `FRAME` has to be free, and `PAGE` and
+/// `NEW_PAGE` mapped nowhere.
 fn deeds(board: &Board) -> Vec<Deed> {
     let process = board.shape.processes - 1;
     let user = |store, value| Call::UserAccess { process, store, width: 4, address: ADDRESS, value };
@@ -38,6 +40,8 @@ fn deeds(board: &Board) -> Vec<Deed> {
         user(false, 0),
         supervisor(true, 0x0506),
         supervisor(false, 0),
+        Call::Move { page: PAGE, new_page: NEW_PAGE },
+        Call::Move { page: NEW_PAGE, new_page: PAGE },
         Call::Protect { page: PAGE, write: false },
         Call::Tag { name: NAME },
         Call::LoadAndMap { line: LINE },
@@ -66,7 +70,7 @@ fn start(rng: &mut Rng, edition: Edition, shape: Shape, fresh: bool) -> Start {
         return start;
     }
     let (mut board, _) = gen::wild_board(rng, edition, shape);
-    board.words.iter_mut().filter(|word| **word / 4 == PAGE).for_each(|word| *word = 0);
+    board.words.iter_mut().filter(|word| [PAGE, NEW_PAGE].contains(&(**word / 4))).for_each(|word| *word = 0);
     board.words[FRAME as usize] = 0;
     board.tag = (true, board.records[0]);
     Start { fresh: false, board, offsets: gen::offsets(rng) }

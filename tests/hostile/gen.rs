@@ -365,16 +365,17 @@ fn good_call(rng: &mut Rng, world: &World, board: &Board) -> Call {
         return if rng.percent(80) { load_and_map(rng, world, board) } else { Call::DropTag };
     }
     match rng.below(100) {
-        0..=41 => {
+        0..=38 => {
             let process = process(rng, board);
             user_access(rng, world, board, process)
         }
-        42..=66 => supervisor_access(rng, world, board),
-        67..=71 => attach(rng, world, board),
-        72..=73 => Call::Detach { process: process(rng, board), slot: rng.pick(&world.slots) },
-        74..=81 => map(rng, world, board),
-        82..=85 => Call::Unmap { page: mapped_page(rng, world, board) },
-        86..=90 => Call::Protect { page: mapped_page(rng, world, board), write: rng.flip() },
+        39..=61 => supervisor_access(rng, world, board),
+        62..=66 => attach(rng, world, board),
+        67..=68 => Call::Detach { process: process(rng, board), slot: rng.pick(&world.slots) },
+        69..=76 => map(rng, world, board),
+        77..=80 => Call::Unmap { page: mapped_page(rng, world, board) },
+        81..=85 => Call::Protect { page: mapped_page(rng, world, board), write: rng.flip() },
+        86..=90 => move_page(rng, world, board),
         91..=92 => Call::FlushAll,
         93..=96 => Call::Tag { name: tag_name(rng, world, board) },
         97..=98 => load_and_map(rng, world, board),
@@ -550,12 +551,24 @@ fn attach(rng: &mut Rng, world: &World, board: &Board) -> Call {
 }
 
 fn map(rng: &mut Rng, world: &World, board: &Board) -> Call {
-    let unmapped: Vec<u64> = world.pages().filter(|&page| frame_of_page(board, page).is_none()).collect();
-    let page = match rng.pick_any(&unmapped) {
-        Some(page) if rng.percent(80) => page,
-        _ => world.page(rng),
-    };
+    let page = unmapped_page(rng, world, board);
     Call::Map { page, frame: free_frame(rng, board), write: rng.percent(60) }
+}
+
+/// A move, mostly of a page that is mapped to one that is not; now and then with the page of a tag or of a held line, with equal
+/// pages, or with one at the ends of what is taken.
+pub fn move_page(rng: &mut Rng, world: &World, board: &Board) -> Call {
+    let (mut page, mut new_page) = (mapped_page(rng, world, board), unmapped_page(rng, world, board));
+    let one = if rng.flip() { &mut page } else { &mut new_page };
+    match rng.below(100) {
+        0..=7 => *one = page_of_name(board.tag.1),
+        8..=15 => *one = held_name(rng, board).map_or(*one, page_of_name),
+        16..=23 => *one = rng.pick(&MOVE_PAGES),
+        24..=27 => new_page = page,
+        28..=29 => page = new_page,
+        _ => {}
+    }
+    Call::Move { page, new_page }
 }
 
 fn load_and_map(rng: &mut Rng, world: &World, board: &Board) -> Call {
@@ -571,6 +584,15 @@ fn load_and_map(rng: &mut Rng, world: &World, board: &Board) -> Call {
 fn mapped_page(rng: &mut Rng, world: &World, board: &Board) -> u64 {
     let mapped: Vec<u64> = world.pages().filter(|&page| frame_of_page(board, page).is_some()).collect();
     match rng.pick_any(&mapped) {
+        Some(page) if rng.percent(80) => page,
+        _ => world.page(rng),
+    }
+}
+
+/// Mostly a page that is not mapped.
+fn unmapped_page(rng: &mut Rng, world: &World, board: &Board) -> u64 {
+    let unmapped: Vec<u64> = world.pages().filter(|&page| frame_of_page(board, page).is_none()).collect();
+    match rng.pick_any(&unmapped) {
         Some(page) if rng.percent(80) => page,
         _ => world.page(rng),
     }
@@ -726,6 +748,11 @@ fn bad_call(rng: &mut Rng, world: &World, board: &Board, good: Call) -> Call {
         },
         Call::Unmap { .. } => Call::Unmap { page: bad_page(rng, world) },
         Call::Protect { write, .. } => Call::Protect { page: bad_page(rng, world), write },
+        Call::Move { page, new_page } => match which {
+            0 => Call::Move { page: bad_page(rng, world), new_page },
+            1 => Call::Move { page, new_page: bad_page(rng, world) },
+            _ => Call::Move { page: bad_page(rng, world), new_page: bad_page(rng, world) },
+        },
         Call::Tag { .. } => Call::Tag { name: bad_name(rng, world) },
         Call::LoadAndMap { .. } => Call::LoadAndMap { line: bad_line(rng, board) },
         Call::FlushAll | Call::DropTag => good,

@@ -1,5 +1,5 @@
-//! 01's numbers, with P and L by CR 7, and those of CR 1, CR 2, CR 4, CR 5, CR 8 and CR 12, written out again: what the test
-//! tries must not move with a mistake in the model.
+//! 01's numbers, with P and L by CR 7, and those of CR 1, CR 2, CR 4, CR 5, CR 8, CR 9 and CR 12, written out again: what the
+//! test tries must not move with a mistake in the model.
 
 use model::{Edition, Matrix};
 
@@ -27,6 +27,10 @@ pub const ALIKE: u64 = 1 << 20;
 /// The pages at the ends of what CR 5 refuses: the first and the last that have no entry, the first and the last that have one,
 /// the first number that is no page, and one that, cut to 32 bits, would be a page with an entry.
 pub const ENTRY_PAGES: [u64; 6] = [0, 0x1F_FFFF, 0x20_0000, 0xFFFF_FFFF, 0x1_0000_0000, 0x1_0020_0000];
+
+/// The pages at the ends of what move takes: outside, the first and the last below and the first above, the first number that is no
+/// page, and one that, cut to 32 bits, would be inside; and the first and the last inside.
+pub const MOVE_PAGES: [u64; 7] = [0, 0x1F_FFFF, 0xFFC0_0000, 0x1_0000_0000, 0x1_0020_0000, PAGE_FIRST, PAGE_LAST];
 
 /// User addresses end here, global addresses and line names there.
 pub const USER_END: u32 = 0x8000_0000;
@@ -69,6 +73,11 @@ pub fn matrix_bytes(matrices: &[Matrix]) -> &[u8] {
 /// Where the bytes of a line stand, in memory by its number and in the cache bytes by that of its record.
 pub fn line_bytes(line: u64) -> std::ops::Range<usize> {
     (line * LINE_BYTES) as usize..((line + 1) * LINE_BYTES) as usize
+}
+
+/// Where the bytes of a frame stand in memory.
+pub fn frame_bytes(frame: u64) -> std::ops::Range<usize> {
+    (frame * PAGE_BYTES) as usize..((frame + 1) * PAGE_BYTES) as usize
 }
 
 /// The physical line that a name has where its page is in this frame.
@@ -121,8 +130,8 @@ pub enum Limit {
 
 use Limit::{Any, Flag, LoadOrStore, Short, Value};
 
-/// The header, which has no kind of its own in a log, then the kinds from 1 to 11: in words, with their fields.
-pub const ENTRIES: [(&str, &[(&str, Limit)]); 12] = [
+/// The header, which has no kind of its own in a log, then the kinds from 1 to 12: in words, with their fields.
+pub const ENTRIES: [(&str, &[(&str, Limit)]); 13] = [
     ("header", &[("F", Any), ("U", Any), ("P", Any), ("L", Any)]),
     (
         "user access",
@@ -138,7 +147,12 @@ pub const ENTRIES: [(&str, &[(&str, Limit)]); 12] = [
     ("tag", &[("line name", Any)]),
     ("load-and-map", &[("physical line", Any)]),
     ("drop tag", &[]),
+    ("move", &[("page", Any), ("new page", Any)]),
 ];
+
+/// The kind of a move, by CR 9; and the first number above the kinds.
+pub const MOVE: u64 = 12;
+pub const NO_KIND: u64 = ENTRIES.len() as u64;
 
 /// The fields of a kind, the header being 0; none where there is no such kind.
 pub fn fields_of(kind: u64) -> &'static [(&'static str, Limit)] {

@@ -47,7 +47,7 @@ faults! {
     NoStatePlace "log-no-state-place" Asked "A state that is none has a place.";
     // Kinds and fields.
     KindsExchanged "log-kinds" Read "Tag and load-and-map are exchanged.";
-    KindTwelve "log-kind-12" Read "Kind 12 is known.";
+    KindThirteen "log-kind-13" Read "Kind 13 is known.";
     KindZero "log-kind-0" Read "A header may come again, as kind 0.";
     KindLow "log-kind-low" Read "A kind has 8 bits.";
     FlagTwo "log-flag-2" Read "A flag may be 2.";
@@ -63,6 +63,12 @@ faults! {
     StoreValue "log-store-value" Read "A store may have no value.";
     GlobalShort "log-global-short" Read "A global address has 32 bits.";
     FieldsExchanged "log-fields" Read "A detach's process and slot are exchanged.";
+    MoveUnknown "log-move-unknown" Read "Kind 12 is not known.";
+    MoveShort "log-move-short" Read "A move has one field.";
+    MoveLong "log-move-long" Read "A move has three fields.";
+    MoveExchanged "log-move-fields" Read "A move's page and new page are exchanged.";
+    MoveNarrow "log-move-narrow" Read "A move's new page has 32 bits.";
+    MoveApart "log-move-apart" Read "A move's page is forgotten at a piece's end.";
     // Pieces and room.
     PieceLoses "log-piece-loses" Read "The first byte of a piece is lost if a number goes on there.";
     PieceForgets "log-piece-forgets" Read "A number's groups are forgotten at a piece's end.";
@@ -97,7 +103,11 @@ faults! {
     WriteLoadValue "write-load-value" Written "A load may have a value.";
     WriteLastField "write-last-field" Written "Of the fields that are too large the last is named.";
     WriteExtra "write-extra" Written "A field that the kind doesn't have is not asked.";
-    WriteTwelve "write-kind-12" Written "Kind 12 is known.";
+    WriteThirteen "write-kind-13" Written "Kind 13 is known.";
+    WriteMoveUnknown "write-move-unknown" Written "Kind 12 is not known.";
+    WriteMoveShort "write-move-short" Written "A move's new page is not written.";
+    WriteMoveExchanged "write-move-fields" Written "A move's page and new page are exchanged.";
+    WriteMoveExtra "write-move-extra" Written "A third field of a move is not asked.";
     WriteHeaderKind "write-header-kind" Written "The header has its kind before it.";
     WriteFieldsFirst "write-fields-first" Written "Fields are asked before the kind.";
     WriteShortRoom "write-short-room" Written "Less room will do, if the entry fits.";
@@ -117,6 +127,8 @@ faults! {
     Trip "log-trip" Trip "What was written is read as another entry.";
     Replay "log-replay" Trip "A call of a log gives another value when it is made again.";
     ReplayFours "log-replay-sets" Trip "The same, in sets of four.";
+    ReplayMove "log-replay-move" Trip "A move of a log gives another number when it is made again.";
+    ReplayMoveFours "log-replay-move-sets" Trip "The same, in sets of four.";
     Parts "write-parts" Form "In parts, writing gives another field.";
     Moves "log-moves" Form "A piece has a byte more left than was not taken.";
     CallsOver "log-calls-over" Asked "A reader has given a call more than it has.";
@@ -131,7 +143,8 @@ impl Wrong {
     /// Whether it is a fault of the reader and writer that stand in for the library.
     pub fn stands_in(self) -> bool {
         use Wrong::*;
-        !matches!(self, Whole | WholePlace | Trip | Replay | ReplayFours | Parts | Moves | CallsOver | Iterates)
+        let replays = matches!(self, Replay | ReplayFours | ReplayMove | ReplayMoveFours);
+        !replays && !matches!(self, Whole | WholePlace | Trip | Parts | Moves | CallsOver | Iterates)
     }
 }
 
@@ -166,7 +179,7 @@ impl Faulty {
     /// Whether the words are taken for a state.
     fn takes(&self, words: &[u64]) -> bool {
         if State::of(words).is_some() {
-            return !(self.is(Wrong::UnreadRead) && words[3] == 0 && words[4] > 11);
+            return !(self.is(Wrong::UnreadRead) && words[3] == 0 && words[4] >= NO_KIND);
         }
         let mut mended = words.to_vec();
         if self.is(Wrong::LongState) {
@@ -230,6 +243,9 @@ impl Faulty {
         if self.is(Wrong::PieceForgetsEntry) && s[3] > 0 && s[4] > 0 {
             s[3] = 0;
         }
+        if self.is(Wrong::MoveApart) && s[3] == 2 && s[4] == MOVE {
+            s[5] = 0;
+        }
         let begun = s[3];
         for (index, &byte) in piece.iter().enumerate() {
             let goes_on = self.is(Wrong::RoomTakes) || self.is(Wrong::NoRoomTakes) && room == 0;
@@ -269,7 +285,12 @@ impl Faulty {
                 break;
             }
             let known = if s[3] == 0 { number } else { s[4] };
-            let count = if known == 12 { 2 } else { fields_of(known).len() as u64 };
+            let count = match self.wrong {
+                Some(Wrong::KindThirteen) if known == NO_KIND => 2,
+                Some(Wrong::MoveShort) if known == MOVE => 1,
+                Some(Wrong::MoveLong) if known == MOVE => 3,
+                _ => fields_of(known).len() as u64,
+            };
             if s[3] == count && given == room {
                 break;
             }
@@ -325,12 +346,12 @@ impl Faulty {
     /// Why a number is refused, of an entry of which so much was there when the piece began.
     fn asks(&self, s: &[u64], number: u64, there: u64, index: usize) -> Option<u64> {
         if s[3] == 0 {
-            let known = (1..=11).contains(&number)
-                || number == 12 && self.is(Wrong::KindTwelve)
+            let known = (1..NO_KIND).contains(&number) && !(number == MOVE && self.is(Wrong::MoveUnknown))
+                || number == NO_KIND && self.is(Wrong::KindThirteen)
                 || number == 0 && self.is(Wrong::KindZero);
             return (!known).then_some(reason::UNKNOWN_KIND);
         }
-        if s[4] == 0 || s[4] > 11 {
+        if s[4] == 0 || s[4] >= NO_KIND {
             return None;
         }
         let limit = limit_of(s);
@@ -356,6 +377,7 @@ impl Faulty {
             Some(Wrong::ValueOver) if limit == Limit::Value && !load => end = Some((1 << 32) + 1),
             Some(Wrong::StoreValue) if limit == Limit::Value => end = Some(1),
             Some(Wrong::GlobalShort) if s[4] == 2 && limit == Limit::Any => end = Some(1 << 32),
+            Some(Wrong::MoveNarrow) if s[4] == MOVE && field == 2 => end = Some(1 << 32),
             _ => {}
         }
         end.is_some_and(|end| number >= end).then_some(reason::TOO_LARGE)
@@ -370,7 +392,7 @@ impl Faulty {
         match (self.wrong, words[0]) {
             (Some(Wrong::KindsExchanged), 9) => part[0] = 10,
             (Some(Wrong::KindsExchanged), 10) => part[0] = 9,
-            (Some(Wrong::FieldsExchanged), 4) => part.swap(1, 2),
+            (Some(Wrong::FieldsExchanged), 4) | (Some(Wrong::MoveExchanged), MOVE) => part.swap(1, 2),
             _ => {}
         }
     }
@@ -444,7 +466,8 @@ impl Faulty {
             return Err(reason::MISFIT << 32);
         }
         let kind = entry[0];
-        let known = kind < 12 || kind == 12 && self.is(Wrong::WriteTwelve);
+        let known = kind < NO_KIND && !(kind == MOVE && self.is(Wrong::WriteMoveUnknown))
+            || kind == NO_KIND && self.is(Wrong::WriteThirteen);
         if !known && !(self.is(Wrong::WriteFieldsFirst) && entry[1..].iter().any(|&word| word != 0)) {
             return Err(reason::UNKNOWN_KIND << 32);
         }
@@ -459,6 +482,7 @@ impl Faulty {
                 let end = end_of_field(*limit, load && !self.is(Wrong::WriteLoadValue));
                 end.is_some_and(|end| entry[1 + index] >= end)
             }
+            None if self.is(Wrong::WriteMoveExtra) && kind == MOVE && *index == 2 => false,
             None => entry[1 + index] != 0 && !self.is(Wrong::WriteExtra),
         };
         let mut larges = (0..ENTRY_WORDS - 1).filter(large);
@@ -472,8 +496,13 @@ impl Faulty {
             _ => kind,
         };
         let first = (kind != 0 || self.is(Wrong::WriteHeaderKind)).then_some(kind);
-        let numbers = first.into_iter().chain(entry[1..=fields.len()].iter().copied());
-        Ok(numbers.flat_map(|number| self.number(number)).collect())
+        let mut fields = entry[1..=fields.len()].to_vec();
+        match self.wrong {
+            Some(Wrong::WriteMoveShort) if kind == MOVE => fields.truncate(1),
+            Some(Wrong::WriteMoveExchanged) if kind == MOVE => fields.swap(0, 1),
+            _ => {}
+        }
+        Ok(first.into_iter().chain(fields).flat_map(|number| self.number(number)).collect())
     }
 
     fn number(&self, number: u64) -> Vec<u8> {

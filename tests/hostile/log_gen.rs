@@ -140,8 +140,8 @@ impl Draft {
         let known = 1 + rng.below(ENTRIES.len() as u64 - 1);
         let kind = match rng.below(8) {
             0 | 1 => 0,
-            2 | 3 => 12,
-            4 => 13 + rng.below(300),
+            2 | 3 => NO_KIND,
+            4 => NO_KIND + 1 + rng.below(300),
             5 => known + (1 << rng.pick(&[8, 16, 32, 63])),
             6 => known,
             _ => number(rng),
@@ -177,7 +177,7 @@ fn damage(rng: &mut Rng, mut draft: Draft) -> Vec<u8> {
             15 | 16 => bytes.truncate(at),
             17 | 18 => bytes.iter_mut().skip(at).take(1).for_each(|byte| *byte ^= 1 << rng.below(8)),
             _ => match rng.below(4) {
-                0 => bytes.insert(at, rng.pick(&[0, 0, 1, 0x80, 0x81, 0xFF, 12])),
+                0 => bytes.insert(at, rng.pick(&[0, 0, 1, 0x80, 0x81, 0xFF, MOVE as u8, NO_KIND as u8])),
                 1 if at < bytes.len() => drop(bytes.remove(at)),
                 2 => rng.fill(&mut bytes[at..]),
                 _ => bytes.resize(at + rng.below(30) as usize, rng.pick(&[0, 8, 0x80, 0xFF])),
@@ -372,7 +372,7 @@ pub fn writing(rng: &mut Rng) -> Writing {
     if rng.percent(40) {
         for _ in 0..rng.pick(&[1, 1, 2]) {
             match rng.below(10) {
-                0 | 1 => entry[0] = rng.pick(&[12, 12, 13, 256 + 6, (1 << 32) + 1, u64::MAX]),
+                0 | 1 => entry[0] = rng.pick(&[NO_KIND, NO_KIND, NO_KIND + 1, 256 + 6, (1 << 32) + 1, u64::MAX]),
                 2..=5 => {
                     let index = rng.below(5) as usize;
                     let limit = fields.get(index).map_or(Limit::Any, |(_, limit)| *limit);

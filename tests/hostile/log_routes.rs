@@ -54,14 +54,14 @@ extern "C" {
 }
 
 /// How many of the header's names are compared: kinds, reasons, and sizes.
-const CONSTANTS: usize = 12 + 6 + 3;
+const CONSTANTS: usize = ENTRIES.len() + 6 + 3;
 
 /// What the header and the crate say of logs, against the documents. Gives what disagrees.
 pub fn header_disagrees() -> Option<String> {
     let sizes = [ENTRY_WORDS, ENTRY_BYTES, STATE_WORDS];
     let (mut theirs, mut ours) = ([0; CONSTANTS], [0; CONSTANTS]);
     unsafe { through_log_constants(&mut theirs) };
-    for (ours, number) in ours.iter_mut().zip((0..12).chain(1..=6).chain(sizes)) {
+    for (ours, number) in ours.iter_mut().zip((0..ENTRIES.len()).chain(1..=6).chain(sizes)) {
         *ours = number;
     }
     if theirs != ours {

@@ -7,7 +7,7 @@ use crate::guarded::FENCED_BEHIND;
 use crate::limits::*;
 use crate::log_gen::{self, Draft};
 use crate::log_sights::number_end;
-use crate::logs::{call_entry, header_entry, Piece, Reading, Words, Writing};
+use crate::logs::{call_entry, entries_of, header_entry, Piece, Reading, Words, Writing};
 use crate::pairs::Failure;
 use crate::plant::Plant;
 use crate::rng::Rng;
@@ -154,10 +154,10 @@ fn tried(limit: Limit, kind: bool) -> Vec<(Vec<u8>, bool)> {
         all.extend(lengths.chain(limits).chain([0, 1]).map(|number| (log::number(number), load)));
     }
     if kind {
-        let known = [1, 11].into_iter().flat_map(|kind| [8, 16, 32, 63].map(|bit| kind + (1 << bit)));
-        let kinds = (0..=13).chain([127, 128, 200, 255, 256, 1 << 40, u64::MAX]).chain(known);
+        let known = [1, 11, MOVE].into_iter().flat_map(|kind| [8, 16, 32, 63].map(|bit| kind + (1 << bit)));
+        let kinds = (0..=NO_KIND + 1).chain([127, 128, 200, 255, 256, 1 << 40, u64::MAX]).chain(known);
         all.extend(kinds.map(|kind| (log::number(kind), false)));
-        all.extend((1..=13).map(|kind| (vec![kind | 0x80, 0], false)));
+        all.extend((1..=NO_KIND as u8 + 1).map(|kind| (vec![kind | 0x80, 0], false)));
     }
     // Padded, by one group and by more, up to a tenth byte; a tenth byte above 1; cut before the number and behind each group.
     for groups in 1..NUMBER_BYTES {
@@ -213,12 +213,12 @@ fn numbers() -> Vec<Deed> {
 
 /// Ends of pieces and room, on good logs and on bad ones.
 fn pieces() -> Vec<Deed> {
-    let (shape, calls) = samples::session();
-    let session = log::write(&shape, &calls).expect("the session can be written");
+    let [session, handed_over] = [samples::session(), samples::handed_over()]
+        .map(|(shape, calls)| log::write(&shape, &calls).expect("a session can be written"));
     let long = behind(&[&[6], &log::number(u64::MAX)[..], &[FLUSH, FLUSH]].concat());
     let bad = behind(&[FLUSH, 0, FLUSH, FLUSH, FLUSH, FLUSH, FLUSH, FLUSH, FLUSH, FLUSH]);
     let mut deeds = vec![read(&[], &[]), read(&[], &[WHOLE]), read(&[], &[Piece::of(0, 0)])];
-    for log in [&session[..], &long, &bad, &BOARD, &BOARD[..3], &[]] {
+    for log in [&session[..], &handed_over, &long, &bad, &BOARD, &BOARD[..3], &[]] {
         deeds.push(read(log, &[Piece::of(0, 2), Piece::of(ALL, 0), Piece::of(1, 1)]));
         for room in [1, 2, 3, 10, 12, MANY] {
             let bytes = [1, 2, 3, 5, 7, 13, ALL];
@@ -237,7 +237,7 @@ fn pieces() -> Vec<Deed> {
 /// More than 65,536 bytes, of every kind.
 fn long() -> Vec<Deed> {
     let mut rng = Rng::new(1);
-    let kinds = (0..12_000).map(|index| 1 + index % 11);
+    let kinds = (0..12_000).map(|index| 1 + index % (NO_KIND - 1));
     let entries: Vec<Words> = [0].into_iter().chain(kinds).map(|kind| log_gen::entry_of(&mut rng, kind)).collect();
     let bytes = Draft::of(&entries).bytes();
     assert!(bytes.len() > 0x1_0000, "a long log");
@@ -267,10 +267,11 @@ fn state(taken: u64, groups: u64, worth: u64, there: &[u64], reason: u64) -> [u6
 }
 
 /// What a piece may bring next: one number taken, of each length, or refused; then more.
-const NEXT: [&[u8]; 8] = [
+const NEXT: [&[u8]; 9] = [
     &[1, 0, 0, 0, 0, 0],
     &[0, 0, 0, 0, 0, FLUSH],
-    &[12, FLUSH],
+    &[MOVE as u8, 5, 6, FLUSH],
+    &[NO_KIND as u8, FLUSH],
     &[0x80, 0, FLUSH],
     &[0x85, 0x80, 0x80, 0x80, 0x10, FLUSH],
     &[0xFF, 0xFF, 0xFF, 0xFF, 0xFF, 0xFF, 0xFF, 0xFF, 0xFF, 1, FLUSH],
@@ -321,8 +322,8 @@ fn states() -> Vec<Deed> {
     words(&state(u64::MAX, u64::MAX, 5, &[6], 0));
     words(&state(1, 2, 5, &[6], 0));
     words(&state(100, 2, u64::MAX, &[6], 0));
-    words(&state(100, 2, 5, &[12], 0));
-    words(&state(100, 10, 5, &[12], 7));
+    words(&state(100, 2, 5, &[NO_KIND], 0));
+    words(&state(100, 10, 5, &[NO_KIND], 7));
     for reason in [1, 4, 7, 256 + 2, (1 << 32) + 6, u64::MAX] {
         words(&state(100, 2, 5, &[6], reason));
     }
@@ -405,7 +406,7 @@ fn writings() -> Vec<Deed> {
             write(&[kind, u64::MAX, u64::MAX, u64::MAX, u64::MAX, u64::MAX], ENTRY_BYTES);
         }
     }
-    for kind in [12, 13, 256, 256 + 6, (1 << 32) + 1, 1 << 63, u64::MAX] {
+    for kind in [NO_KIND, NO_KIND + 1, 256, 256 + 6, 256 + MOVE, (1 << 32) + 1, 1 << 63, u64::MAX] {
         for fields in [[0; 5], [u64::MAX; 5]] {
             let entry = [&[kind], &fields[..]].concat();
             write(&entry, ENTRY_BYTES);
@@ -416,12 +417,16 @@ fn writings() -> Vec<Deed> {
     deeds
 }
 
-/// The session, a run of no calls and a long one, each written and read again.
+/// The good sample logs; those of two lines once more, with enough for sets of four; and long ones. Each is written and read again.
 fn trips() -> Vec<Vec<Deed>> {
-    let (shape, calls) = samples::session();
-    let own = [header_entry(&shape)];
-    let session: Vec<Words> = own.into_iter().chain(calls.iter().map(call_entry)).collect();
-    let long = own.into_iter().chain(session[1..].iter().copied().cycle().take(60)).collect();
+    let good = samples::all().into_iter().map(|sample| log::read(&sample.log)).filter(|read| read.refusal.is_none());
+    let good: Vec<Vec<Words>> = good.map(|read| entries_of(&read)).collect();
+    let mut widened: Vec<Vec<Words>> = good.iter().filter(|run| run[0][4] == 2).cloned().collect();
+    widened.iter_mut().for_each(|run| run[0][4] = 16);
+    let long = [samples::session(), samples::handed_over()].map(|(shape, calls)| {
+        let calls = calls.iter().cycle().take(60);
+        [header_entry(&shape)].into_iter().chain(calls.map(call_entry)).collect()
+    });
     let written = |entries: Vec<Words>| {
         let read = [WHOLE, Piece::of(1, 1)].map(|piece| {
             let reading = Reading { stain: STAIN, ..Reading::of(Vec::new(), vec![piece]) };
@@ -429,7 +434,7 @@ fn trips() -> Vec<Vec<Deed>> {
         });
         entries.into_iter().map(|entry| Deed::Write(Writing::of(entry))).chain(read).collect()
     };
-    [session, own.to_vec(), long].map(written).to_vec()
+    good.into_iter().chain(widened).chain(long).map(written).collect()
 }
 
 /// Each part of the planned runs, with how it is brought: by every route, or by those that take words; and whether it comes a

@@ -6,6 +6,7 @@
 use crate::limits::*;
 use crate::logs::{self, Call, State, Took, Writing};
 use crate::routes::{Manner, Route, ROUTES};
+use model::Edition;
 use std::fmt::{self, Arguments};
 use Route::{Board, Header, Raw, Safe};
 
@@ -169,10 +170,10 @@ impl Fate {
     }
 
     fn unknown(kind: u64) -> Fate {
-        let known = |bits: u32| (1..ENTRIES.len() as u64).contains(&(kind % (1 << bits)));
+        let known = |bits: u32| (1..NO_KIND).contains(&(kind % (1 << bits)));
         match kind {
             0 => KindZero,
-            12 => KindNext,
+            NO_KIND => KindNext,
             _ if known(8) || known(16) || known(32) => KindAlike,
             _ => KindFar,
         }
@@ -194,8 +195,8 @@ impl fmt::Display for Fate {
             FirstInLoad => "refused, 1 in a load",
             FarInLoad => "refused, more in a load",
             KindZero => "refused, 0",
-            KindNext => "refused, 12",
-            KindFar => "refused, above 12",
+            KindNext => "refused, 13",
+            KindFar => "refused, above 13",
             KindAlike => "refused, known in its low bits",
         })
     }
@@ -217,10 +218,12 @@ fn is_load(numbers: &[u64]) -> bool {
 // Sights
 // ---------------------------------------------------------------------------------------------
 
-/// The routes that can bring it: all; those that show a state, as words; those that take pointers.
+/// The routes that can bring it: all; those that show a state, as words; those that take pointers; those that make calls of
+/// entries.
 const EACH: &[Route] = &[Raw, Header, Board, Safe];
 const WORDS: &[Route] = &[Raw, Header];
 const POINTERS: &[Route] = &[Raw, Header, Board];
+const MAKERS: &[Route] = &[Board, Safe];
 
 macro_rules! sights {
     ($($sight:ident $words:literal: $routes:expr;)*) => {
@@ -276,6 +279,17 @@ sights! {
     // Entries of each kind are in the fates; what else is read.
     Trip "a run written and read again": EACH;
     TripLong "a run of 50 calls or more written and read again": EACH;
+    // Moves of such a run, made again on a board of zeros of each edition.
+    Ones0 "a move made again with one line to a place: done": MAKERS;
+    Ones1 "a move made again with one line to a place: refused by 1": MAKERS;
+    Ones2 "a move made again with one line to a place: refused by 2": MAKERS;
+    Ones8 "a move made again with one line to a place: refused by 8": MAKERS;
+    Ones11 "a move made again with one line to a place: refused by 11": MAKERS;
+    Fours0 "a move made again in sets of four: done": MAKERS;
+    Fours1 "a move made again in sets of four: refused by 1": MAKERS;
+    Fours2 "a move made again in sets of four: refused by 2": MAKERS;
+    Fours8 "a move made again in sets of four: refused by 8": MAKERS;
+    Fours11 "a move made again in sets of four: refused by 11": MAKERS;
     // States that no reading reaches, and go on by the same rules.
     WildWords "a wild state: words that are not read": WORDS;
     WildField "a wild state: a field so far that is too large": WORDS;
@@ -328,6 +342,7 @@ sights! {
     ThereOver9 "no state: a word too many of a tag": WORDS;
     ThereOver10 "no state: a word too many of a load-and-map": WORDS;
     ThereOver11 "no state: a word too many of a drop tag": WORDS;
+    ThereOver12 "no state: a word too many of a move": WORDS;
     ThereUnknown "no state: a word of a kind that is not known": WORDS;
     ThereMost "no state: 2^64 - 1 words": WORDS;
     Reason1 "no state: refused by 1": WORDS;
@@ -352,7 +367,7 @@ sights! {
     WrittenMore "written, into more room": WORDS;
     WrittenLongest "written, an entry of 40 bytes": EACH;
     WrittenShortest "written, an entry of one byte": EACH;
-    KindOver "not written: kind 12": EACH;
+    KindOver "not written: kind 13": EACH;
     KindMost "not written: kind 2^64 - 1": EACH;
     KindLow "not written: a kind that is known in its low bits": EACH;
     KindFields "not written: a kind that is not known, its fields too large as well": EACH;
@@ -389,6 +404,9 @@ const WILD_ENDS: [(u64, &str); 5] = [
     (reason::UNKNOWN_KIND, "refused, no kind"),
     (reason::TOO_LARGE, "refused, too large"),
 ];
+
+/// The numbers that a move may have, by CR 9, in the order of their sights.
+const MOVE_NUMBERS: [u32; 5] = [0, 1, 2, 8, 11];
 
 /// What is counted of a reading.
 pub struct Tally {
@@ -468,7 +486,10 @@ impl Tally {
         self.when(full && taken < offered.len(), Sight::FullBefore);
         self.when(full && taken == offered.len(), Sight::FullAt);
         let next = offered.get(taken);
-        self.when(full && next.is_some_and(|next| *next == 0 || (12..0x80).contains(next)), Sight::FullAtBad);
+        self.when(
+            full && next.is_some_and(|next| *next == 0 || (NO_KIND as u8..0x80).contains(next)),
+            Sight::FullAtBad,
+        );
         self.when(refused && taken == 0, Sight::BadFirst);
         self.when(refused && !given.is_empty(), Sight::BadAfter);
         self.when(refused && at + 1 == call.log.len(), Sight::BadLast);
@@ -527,8 +548,8 @@ impl Tally {
         self.when(wrong[1] && most == Some(worth), nth(Sight::WorthOver0, groups.min(9)));
         self.when(wrong[1] && worth == u64::MAX, Sight::WorthMost);
         if wrong[2] {
-            let is_known = kind < ENTRIES.len() as u64;
-            self.when(is_known && there == fields + 1, nth(Sight::ThereOver0, kind.min(11)));
+            let is_known = kind < NO_KIND;
+            self.when(is_known && there == fields + 1, nth(Sight::ThereOver0, kind.min(NO_KIND - 1)));
             self.when(!is_known && there == 1, Sight::ThereUnknown);
             self.when(there == u64::MAX, Sight::ThereMost);
         }
@@ -629,10 +650,18 @@ impl Tally {
         self.when(end.taken == u64::MAX, Sight::WildMost);
     }
 
-    /// A run that was written, read again.
-    pub fn trip(&mut self) {
+    /// A run that was written, read again; and the numbers that its moves had, made again in an edition.
+    pub fn trip(&mut self, moves: &[(Edition, u32)]) {
         self.when(self.given > 1, Sight::Trip);
         self.when(self.given > 50, Sight::TripLong);
+        for &(edition, number) in moves {
+            let first = match edition {
+                Edition::Ones => Sight::Ones0,
+                Edition::Fours => Sight::Fours0,
+            };
+            let index = MOVE_NUMBERS.iter().position(|&of| of == number).expect("a number that a move may have");
+            self.when(true, nth(first, index as u64));
+        }
     }
 }
 
@@ -734,7 +763,7 @@ impl Logs {
             None => entry[1 + index] != 0,
         };
         if refused == reason::UNKNOWN_KIND {
-            when(kind == 12, Sight::KindOver);
+            when(kind == NO_KIND, Sight::KindOver);
             when(kind == u64::MAX, Sight::KindMost);
             when(Fate::unknown(kind) == KindAlike, Sight::KindLow);
             return when(entry[1..].iter().any(|&word| word > 1 << 32), Sight::KindFields);

@@ -383,8 +383,7 @@ pub fn read(
         }
         if reading.log.is_none() && at == log.len() {
             written.same_as(&all, plant)?;
-            replayed(log, route, plant)?;
-            tally.trip();
+            tally.trip(&replayed(log, route, plant)?);
         }
         tally.whole(log, &State::of(&state).expect("a fresh state becomes a reader's state"));
     } else if let Some(end) = State::of(&state) {
@@ -496,15 +495,21 @@ fn iterated(log: &[u8], reading: &Reading, plant: Option<Plant>) -> Check {
 }
 
 /// A run that was written, made again of its log in each edition, by the header's function or the safe crate's: as the model
-/// replays it.
-fn replayed(log: &[u8], route: Route, plant: Option<Plant>) -> Check {
+/// replays it. Gives the number of each of its moves, in each edition.
+fn replayed(log: &[u8], route: Route, plant: Option<Plant>) -> Result<Vec<(Edition, u32)>, Difference> {
     let read = log::read(log);
-    let Some(shape) = read.header.filter(is_moderate) else { return Ok(()) };
+    let mut moves = Vec::new();
+    let Some(shape) = read.header.filter(is_moderate) else { return Ok(moves) };
     let entries: Vec<Words> = read.calls.iter().map(call_entry).collect();
-    for (edition, wrong) in [(Edition::Ones, Wrong::Replay), (Edition::Fours, Wrong::ReplayFours)] {
-        let Some(mut answers) = log_routes::replayed(edition, &shape, &entries, route) else { return Ok(()) };
-        if plant == Some(Plant::Log(Some(wrong))) {
-            answers.iter_mut().for_each(|answer| answer.value ^= 1);
+    for (edition, values, numbers) in [
+        (Edition::Ones, Wrong::Replay, Wrong::ReplayMove),
+        (Edition::Fours, Wrong::ReplayFours, Wrong::ReplayMoveFours),
+    ] {
+        let Some(mut answers) = log_routes::replayed(edition, &shape, &entries, route) else { return Ok(moves) };
+        let is_planted = |wrong: Wrong| plant == Some(Plant::Log(Some(wrong)));
+        for (answer, entry) in answers.iter_mut().zip(&entries) {
+            answer.value ^= u32::from(is_planted(values));
+            answer.number ^= u32::from(is_planted(numbers) && entry[0] == MOVE);
         }
         let replayed = log::replay_in(edition, log, None);
         for (index, (answer, expected)) in answers.iter().zip(&replayed.answers).enumerate() {
@@ -512,9 +517,12 @@ fn replayed(log: &[u8], route: Route, plant: Option<Plant>) -> Check {
                 let text = format!("call {} made again in sets of {}: {answer:?}", index + 1, set_lines(edition));
                 return Err(differs(Kind::Trip, format!("{text}, by the model {expected:?}")));
             }
+            if entries[index][0] == MOVE {
+                moves.push((edition, answer.number));
+            }
         }
     }
-    Ok(())
+    Ok(moves)
 }
 
 /// A board that is no larger than need be for a test, or out of the limits.

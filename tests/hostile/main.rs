@@ -20,6 +20,7 @@ mod log_runs;
 mod log_sights;
 mod logs;
 mod marks;
+mod moves;
 mod pairs;
 mod places;
 mod plant;
@@ -37,7 +38,7 @@ mod values;
 mod walks;
 
 use apart::End;
-use coverage::{Coverage, PairCounts};
+use coverage::Coverage;
 use gen::World;
 use limits::EDITIONS;
 use model::{Answer, Board, Edition};
@@ -157,7 +158,7 @@ pub fn search(rng: &mut Rng, calls: u64, plant: Option<Plant>, coverage: &mut Co
         board(rng, start, &world, plant, coverage)?;
         coverage.boards += 1;
         if coverage.boards % BOARDS_PER_PAIR < EDITIONS.len() as u64 {
-            pairs::pair(rng, edition, coverage, false)?;
+            pairs::pair(rng, edition, coverage, None)?;
         }
     }
     Ok(())
@@ -166,10 +167,11 @@ pub fn search(rng: &mut Rng, calls: u64, plant: Option<Plant>, coverage: &mut Co
 /// Planned runs in an edition: each gives how many boards there were.
 pub type Planned = fn(&mut Rng, Edition, Option<Plant>, &mut Coverage) -> Result<usize, Failure>;
 
-const PLANNED: [(Planned, &str); 5] = [
+const PLANNED: [(Planned, &str); 6] = [
     (edges::edges, "at the limits of P and L and past them, every call on each"),
     (values::values, "with values at the ends of the widths, beside each number that an access gives"),
     (places::places, "with lines at the ends of a page's places, beside them and among them"),
+    (moves::moves, "with pages moved, and accesses by both names"),
     (list_runs::lists, "with lists of user accesses"),
     (set_runs::sets, "with lines of a set found, filled and pushed out in every order"),
 ];
@@ -258,12 +260,11 @@ fn search_and_report(options: &Options) -> Result<(), String> {
     }
     println!("{}", coverage.logs.told(planned, logs, trips));
     for (edition, _) in EDITIONS {
-        let PairCounts { pairs, hit, write_back, list } = *coverage.pairs(edition);
-        println!(
-            "{pairs} pairs of runs in sets of {}, equal for process 0 but for marks; {hit} with a hit in one run only, \
-             {write_back} with a refill's write-back in one only, {list} with a list in which the others' differ",
-            limits::set_lines(edition)
-        );
+        let (counts, sets) = (coverage.pairs(edition), limits::set_lines(edition));
+        println!("{} pairs of runs in sets of {sets}, equal for process 0 but for marks:", counts.pairs);
+        for (words, count) in counts.each() {
+            println!("{count:>7}  {words}");
+        }
     }
     let problems = coverage.problems();
     if !problems.is_empty() {

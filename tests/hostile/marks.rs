@@ -9,7 +9,7 @@ use std::fmt;
 
 /// What is marked, with the marks that it may have where it is done: loads and stores, in the order of `Whose`, then the calls
 /// that are no accesses. Page table addresses and those from 2^44 up are always refused.
-pub const MARKED: [(&str, &[u32]); 22] = [
+pub const MARKED: [(&str, &[u32]); 23] = [
     ("user load", &[1, 2, 3]),
     ("user store", &[1, 2, 3]),
     ("supervisor load, ordinary", &[1, 2, 3]),
@@ -27,6 +27,7 @@ pub const MARKED: [(&str, &[u32]); 22] = [
     ("map", &[0]),
     ("unmap", &[0]),
     ("protect", &[0]),
+    ("move", &[0]),
     (FLUSH_ALL, &[0]),
     ("tag", &[0]),
     ("load-and-map", &[0]),
@@ -35,7 +36,7 @@ pub const MARKED: [(&str, &[u32]); 22] = [
 ];
 
 /// The row of a list, whose accesses have marks of their own.
-const LISTS: usize = 21;
+const LISTS: usize = 22;
 
 const FLUSH_ALL: &str = "flush all";
 
@@ -51,10 +52,11 @@ fn row_of(call: &Call) -> usize {
         Call::Map { .. } => 14,
         Call::Unmap { .. } => 15,
         Call::Protect { .. } => 16,
-        Call::FlushAll => 17,
-        Call::Tag { .. } => 18,
-        Call::LoadAndMap { .. } => 19,
-        Call::DropTag => 20,
+        Call::Move { .. } => 17,
+        Call::FlushAll => 18,
+        Call::Tag { .. } => 19,
+        Call::LoadAndMap { .. } => 20,
+        Call::DropTag => 21,
     }
 }
 

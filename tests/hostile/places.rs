@@ -1,6 +1,6 @@
-//! Planned runs that reach all of `sights.rs`: map, unmap, protect and flush all on boards where lines stand at the ends of a
-//! page's places, beside them and among them; by every route, on fresh boards and on wild ones, in either edition. Nothing else is
-//! counted there.
+//! Planned runs that reach all of `sights.rs`: map, unmap, protect, move and flush all on boards where lines stand at the ends of
+//! a page's places, beside them and among them; by every route, on fresh boards and on wild ones, in either edition. Nothing else
+//! is counted there.
 
 use crate::coverage::{Coverage, Planned};
 use crate::guarded::FENCED_BEHIND;
@@ -12,7 +12,7 @@ use crate::routes::Manner;
 use crate::sights::records_of;
 use crate::trace::{Deed, Start, Step};
 use crate::{gen, stepped, ways};
-use model::{kind_of, place_of, Board, Call, Edition, Record, Shape, NO_TAG};
+use model::{frame_word, kind_of, place_of, Board, Call, Edition, Record, Shape, NO_TAG};
 use std::ops::Range;
 
 /// How many sets the boards have, but for those with the most lines.
@@ -26,22 +26,27 @@ pub fn lines_of(edition: Edition) -> impl Iterator<Item = u64> {
 /// The last line of a page, by its index in it.
 const LAST: u64 = LINES_PER_PAGE - 1;
 
-/// A page whose places are amid others, with enough lines; and from where on pages are taken that are alike to another.
+/// A page whose places are amid others, with enough lines; one with the same places, to which it is moved; and from where on pages
+/// are taken that are alike to another.
 const PAGE: u64 = 0x34_5601;
+const NEW_PAGE: u64 = 0x56_7801;
 const ALIKE_PAGES: u64 = 0x40_0000;
 
-/// A frame amid others; and how many of the last ones are for other pages than the one that is played with: those beside it and
-/// alike to it; and pages from here on whose lines fill sets, so many for each of five.
+/// A frame amid others, its prefix 1 range at the places of `PAGE`; and how many of the last ones are for other pages than those
+/// that are played with: those beside them and alike to them; and pages from here on whose lines fill sets, so many for each of
+/// five.
 const FRAME: u64 = 1;
-const SPARE: u64 = 4;
+const SPARE: u64 = 6;
 const FILLERS: u64 = 0x1000_0000;
 const FILLERS_EACH: u64 = 3;
 
-/// A page, and the frame in which it is, or will be.
+/// A page, and the frame in which it is, or will be; and the page to which it is moved, where it is not mapped, protected and
+/// unmapped.
 #[derive(Clone, Copy)]
 struct Spot {
     page: u64,
     frame: u64,
+    new_page: Option<u64>,
 }
 
 /// Records at the places of a page, and the pages whose lines can stand there.
@@ -50,15 +55,23 @@ type Ground = (Range<u64>, Vec<u64>);
 impl Spot {
     /// Where there are more sets than a page has lines: the frame's places are the page's; the frame's are the first of all and the
     /// page's the last; the other way round. The first places are frame 0's, and again those of the frame after the one that
-    /// has the last; but with the most lines that one would take much memory.
+    /// has the last; but with the most lines that one would take much memory. Likewise the places of the page to which one is moved.
     fn all(edition: Edition, lines: u64) -> Vec<Spot> {
-        let (amid, sets) = (Spot { page: PAGE, frame: FRAME }, sets_of(edition, lines));
+        let (amid, sets) = (Spot { page: PAGE, frame: FRAME, new_page: None }, sets_of(edition, lines));
+        let moved = |page: u64, new_page: u64| Spot { page, new_page: Some(new_page), ..amid };
         if sets <= LINES_PER_PAGE {
-            return vec![amid];
+            return vec![amid, moved(PAGE, NEW_PAGE)];
         }
         let last = sets / LINES_PER_PAGE - 1;
         let first = if lines == LINES_MAX { 0 } else { last + 1 };
-        vec![amid, Spot { page: PAGE_LAST, frame: first }, Spot { page: PAGE_FIRST, frame: last }]
+        vec![
+            amid,
+            Spot { page: PAGE_LAST, frame: first, ..amid },
+            Spot { page: PAGE_FIRST, frame: last, ..amid },
+            moved(PAGE, NEW_PAGE),
+            moved(PAGE_LAST, PAGE_FIRST),
+            moved(PAGE_FIRST, PAGE_LAST),
+        ]
     }
 
     /// A board has the frame with its neighbours, and the spare ones.
@@ -78,13 +91,20 @@ impl Spot {
         PREFIX1_PAGE + self.frame
     }
 
+    /// The page whose lines are taken, too.
+    fn other(&self) -> u64 {
+        self.new_page.unwrap_or(self.prefix1())
+    }
+
+    /// Where a page is moved amid other places, its frame's prefix 1 lines stand there, too.
     fn grounds(&self, edition: Edition, lines: u64) -> Vec<Ground> {
         let of = |page: u64| records_of(page, edition, lines);
-        let (own, frames) = (of(self.page), of(self.prefix1()));
-        if own == frames {
-            vec![(own, vec![self.page, self.prefix1()])]
+        let (own, others) = (of(self.page), of(self.other()));
+        if own == others {
+            let kept = self.new_page.map(|_| self.prefix1());
+            vec![(own, [self.page, self.other()].into_iter().chain(kept).collect())]
         } else {
-            vec![(own, vec![self.page]), (frames, vec![self.prefix1()])]
+            vec![(own, vec![self.page]), (others, vec![self.other()])]
         }
     }
 
@@ -165,24 +185,27 @@ impl Thing {
     }
 }
 
-/// What stands at a page's places: at both ends this, of this one of the pages whose lines can stand there; between them the
-/// same, or anything.
+/// What stands at a page's places: at both ends this, of one of the pages whose lines can stand there at the first end and of one
+/// at the last; between them the same, or anything.
 #[derive(Clone, Copy)]
 struct Scene {
     ends: Thing,
-    of: usize,
+    of: [usize; 2],
     full: bool,
 }
 
-/// With more sets than a page has lines there is room for everything between the ends, and the last spot is full.
+/// With more sets than a page has lines there is room for everything between the ends, and the last spot is full. Of a page that is
+/// moved and of the new one, amid other places, either has the lower end; and prefix 1 lines stand at both.
 fn scenes(edition: Edition, lines: u64, spot: &Spot) -> Vec<Scene> {
     let pages = spot.grounds(edition, lines)[0].1.len();
-    let of_each = |ends: Thing, full: bool| (0..pages).map(move |of| Scene { ends, of, full });
+    let of_each = |ends: Thing, full: bool| (0..pages.min(2)).map(move |of| Scene { ends, of: [of; 2], full });
+    let mixed = [[0, 1], [1, 0], [2, 2]].map(|of| Scene { ends: Thing::Changed, of, full: false });
+    let mixed = mixed.into_iter().filter(|_| pages > 2);
     if sets_of(edition, lines) <= LINES_PER_PAGE {
         let ends = THINGS.into_iter().flat_map(|thing| of_each(thing, false));
-        ends.chain(of_each(Thing::Changed, true)).collect()
+        ends.chain(of_each(Thing::Changed, true)).chain(mixed).collect()
     } else {
-        of_each(Thing::Changed, spot.page == PAGE_FIRST).collect()
+        of_each(Thing::Changed, spot.page == PAGE_FIRST).chain(mixed).collect()
     }
 }
 
@@ -219,7 +242,12 @@ impl Boards {
             boards += 1;
             stepped(start, calls.len(), plant, coverage, |index, _| Step { deed: Deed::Call(calls[index]), manner })
         };
-        for spot in Spot::all(self.edition, self.lines) {
+        // A wrong walk shows only where its call is made.
+        let shows = |spot: &Spot| match plant {
+            Some(Plant::Walk(walk)) => walk.is_of_move() == spot.new_page.is_some(),
+            _ => true,
+        };
+        for spot in Spot::all(self.edition, self.lines).into_iter().filter(shows) {
             if fresh {
                 let start = self.fresh(rng, &spot);
                 let calls = self.fresh_calls(&spot, &start.board);
@@ -246,25 +274,29 @@ impl Boards {
         board.shape = spot.shape(self.edition, self.lines);
         board.words.resize(board.shape.frames as usize, 0);
         board.memory.resize((board.shape.frames * PAGE_BYTES) as usize, 0);
-        board.words.iter_mut().filter(|word| **word / 4 == spot.page).for_each(|word| *word = 0);
-        board.words[spot.frame as usize] = if mapped { spot.page * 4 + 1 } else { 0 };
+        let pages = [Some(spot.page), spot.new_page];
+        board.words.iter_mut().filter(|word| pages.contains(&Some(**word / 4))).for_each(|word| *word = 0);
+        board.words[spot.frame as usize] = if mapped { frame_word(spot.page, rng.flip()) } else { 0 };
         let grounds = spot.grounds(self.edition, self.lines);
         self.lay_beside(&mut board, spot, &grounds);
         let mut line = 0;
         for ground in &grounds {
             self.lay(rng, &mut board, scene, ground, line);
-            line += (ground.0.end - ground.0.start) / 2;
+            if spot.new_page.is_none() {
+                line += (ground.0.end - ground.0.start) / 2;
+            }
         }
         let [slots, words, _, cache, memory, uses] = gen::offsets(rng);
         Start { fresh: false, board, offsets: [slots, words, FENCED_BEHIND, cache, memory, uses] }
     }
 
-    /// Two records as far from the one end as from the other have one physical line, from this one up.
+    /// Two records as far from the one end as from the other have one physical line, from this one up; those at the places of a
+    /// page and of the one to which it is moved have the same.
     fn lay(&self, rng: &mut Rng, board: &mut Board, scene: Scene, (records, pages): &Ground, line: u64) {
         for at in records.clone() {
             let from_end = (at - records.start).min(records.end - 1 - at);
             let (thing, page) = if scene.full || from_end == 0 {
-                (scene.ends, pages[scene.of])
+                (scene.ends, pages[scene.of[usize::from(at > records.start)]])
             } else {
                 (rng.pick(&THINGS), rng.pick(pages))
             };
@@ -284,7 +316,7 @@ impl Boards {
             put(board, at, Record { name, line: at % LINES_PER_PAGE, changed: true, write: true, valid: true });
         }
         let middle = self.lines / 2;
-        for (at, page) in [(middle + 3, spot.page), (middle + 5, spot.prefix1())] {
+        for (at, page) in [(middle + 3, spot.page), (middle + 5, spot.other())] {
             if free(&at) {
                 let name = page * LINES_PER_PAGE;
                 put(board, at, Record { name, line: 0, changed: true, write: true, valid: true });
@@ -298,7 +330,7 @@ impl Boards {
     fn fresh(&self, rng: &mut Rng, spot: &Spot) -> Start {
         let mut start = gen::fresh(rng, self.edition, spot.shape(self.edition, self.lines));
         start.board.tag = NO_TAG;
-        let scene = Scene { ends: Thing::Invalid, of: 0, full: true };
+        let scene = Scene { ends: Thing::Invalid, of: [0; 2], full: true };
         for ground in spot.grounds(self.edition, self.lines) {
             self.lay(rng, &mut start.board, scene, &ground, 0);
         }
@@ -306,18 +338,27 @@ impl Boards {
     }
 
     fn fresh_calls(&self, spot: &Spot, board: &Board) -> Vec<Call> {
-        let (page, prefix1, sets) = (spot.page, spot.prefix1(), self.sets());
-        let alike = |page: u64| ALIKE_PAGES + page % ALIKE;
+        let (page, other, sets) = (spot.page, spot.other(), self.sets());
         let last = PREFIX1_PAGE + (sets - 1) / LINES_PER_PAGE;
-        let filled = [page, page - 1, prefix1, prefix1 - 1, last];
-        let others = neighbours(page).map(|(page, _)| page).chain([alike(page), alike(prefix1)]);
+        let filled = [page, page - 1, other, other - 1, last];
+        let beside = neighbours(page).chain(spot.new_page.into_iter().flat_map(neighbours));
+        let others = beside.map(|(page, _)| page).chain([alike(page), alike(other)]);
         let others: Vec<u64> = others.chain(fillers(self.edition, sets, &filled)).collect();
         let mut plan = Plan { board: board.clone(), calls: Vec::new() };
         for (frame, page) in (spot.frames()..).zip(others) {
             plan.call(Call::Map { page, frame, write: true });
         }
-        // Lines at the ends of the places and beside them: of a page that is mapped; of a frame to which it will be.
         plan.call(spot.map());
+        match spot.new_page {
+            Some(new_page) => plan.of_moved(page, new_page),
+            None => self.of_mapped(spot, last, &mut plan),
+        }
+        plan.calls
+    }
+
+    /// Lines at the ends of the places and beside them: of a page that is mapped; of a frame to which it will be.
+    fn of_mapped(&self, spot: &Spot, last: u64, plan: &mut Plan) {
+        let (page, prefix1, sets) = (spot.page, spot.prefix1(), self.sets());
         plan.beside(page);
         plan.ends(page);
         spot.protect().into_iter().for_each(|call| plan.call(call));
@@ -344,8 +385,12 @@ impl Boards {
             plan.touch_last(last, LAST);
             plan.call(Call::FlushAll);
         }
-        plan.calls
     }
+}
+
+/// A page that is alike to another.
+fn alike(page: u64) -> u64 {
+    ALIKE_PAGES + page % ALIKE
 }
 
 /// Pages that have lines at the places of these, to fill sets with: with one line to a place, none.
@@ -407,6 +452,22 @@ impl Plan {
         self.touch_last(page, LAST);
     }
 
+    /// A page is moved, and back again: with lines at the ends of its places and beside both pages', and with others' lines among
+    /// them.
+    fn of_moved(&mut self, page: u64, new_page: u64) {
+        self.beside(page);
+        self.beside(new_page);
+        self.ends(page);
+        self.call(Call::Move { page, new_page });
+        self.call(touch(new_page, 1));
+        self.call(Call::Move { page: new_page, new_page: page });
+        self.call(touch(alike(page), 1));
+        self.call(Call::Move { page, new_page });
+        self.call(touch(alike(new_page), 1));
+        self.call(Call::Move { page: new_page, new_page: page });
+        self.call(Call::Move { page, new_page });
+    }
+
     /// Lines of the pages beside it, in the records next to its places: where there are others than its own.
     fn beside(&mut self, page: u64) {
         if self.sets() > LINES_PER_PAGE {
@@ -423,9 +484,12 @@ impl Plan {
 
 /// Calls for a board on which the page is mapped, or is not. Amid other places all is flushed, once.
 fn wild_calls(spot: &Spot, scene: Scene) -> Vec<(bool, Vec<Call>)> {
+    if let Some(new_page) = spot.new_page {
+        return vec![(true, vec![Call::Move { page: spot.page, new_page }])];
+    }
     let [yes, no] = spot.protect();
     let mut calls = vec![(true, vec![yes, no, spot.unmap(), spot.map()]), (false, vec![spot.map()])];
-    if spot.is_amid() && scene.of == 0 {
+    if spot.is_amid() && scene.of == [0; 2] {
         calls.push((true, vec![Call::FlushAll]));
     }
     calls

@@ -3,7 +3,7 @@
 
 use crate::cases::{Facts, Line};
 use crate::guarded::{Element, Guarded, Lists, Real};
-use crate::limits::end_of_width;
+use crate::limits::{end_of_width, frame_bytes, LINES_PER_PAGE, PAGES_END, PAGE_LAST};
 use crate::list_faults::{self, FAULTS};
 use crate::lists::List;
 use crate::log_faults;
@@ -12,7 +12,10 @@ use crate::run::Kind;
 use crate::set_faults;
 use crate::values::{fitting, Access, Whose};
 use crate::walks::{walks, Walk};
-use model::{mark, Answer, Board, Call, Event, Plain, PlainAnswer, Record};
+use model::{
+    frame_word, mapping, mark, page_in_range, page_of_name, Answer, Board, Call, Event, Plain, PlainAnswer, Record,
+    Shape,
+};
 
 #[derive(Clone, Copy, Debug, PartialEq, Eq)]
 pub enum Plant {
@@ -48,6 +51,7 @@ pub enum Plant {
     TwoCopies,
     Asks(Asks),
     Marks(Marks),
+    Moves(Moves),
     List(list_faults::Wrong),
     /// None: nothing is wrong in what stands in for the library.
     Sets(Option<set_faults::Wrong>),
@@ -109,8 +113,63 @@ pub enum Marks {
     RefusedMiss,
     /// Load-and-map has the mark of an access.
     Inserts,
-    /// 3 for unmap and flush all where they write back.
+    /// 3 for unmap, move and flush all where they write back.
     Sweeps,
+    /// 2 for move.
+    Moves,
+    /// 2 for a refused move.
+    RefusedMove,
+}
+
+/// What is wrong in a move, but for the records that it visits.
+#[derive(Clone, Copy, Debug, PartialEq, Eq)]
+pub enum Moves {
+    /// The page becomes read-only.
+    LosesWrite,
+    /// The page becomes writable.
+    GivesWrite,
+    /// The frame is filled with zeros.
+    Zeroes,
+    /// The page gets the lowest free frame from U up with a copy of its bytes, and keeps its own.
+    Copies,
+    /// The frame loses its word.
+    Unmaps,
+    /// The frame keeps its word.
+    KeepsOld,
+    /// Of a doubled page the highest frame gets the new page.
+    Highest,
+    /// Of a doubled page every frame gets the new page.
+    EachFrame,
+    /// A frame below U that has the page's word gets the new page, too.
+    BelowU,
+    /// 11 where a word of no form has the new page.
+    NoForm,
+    /// A pending tag is dropped.
+    DropsTag,
+    /// A pending tag of the page becomes one of the new page.
+    Retags,
+    /// 3 where a tag is pending.
+    AsksTag,
+    /// 8 and 11 are exchanged.
+    Exchanged,
+    /// 11 where the new page is mapped, though the old one is not.
+    NewFirst,
+    /// Equal pages are taken.
+    TakesEqual,
+    /// 11 for equal pages that are not mapped.
+    RefusesEqual,
+    /// A new page that is mapped is taken.
+    TakesMapped,
+    /// Of the new page no range is asked.
+    AnyNew,
+    /// Of the old page no range is asked: it is not mapped, then.
+    AnyOld,
+    /// Pages are cut to 32 bits.
+    Cut,
+    /// 2 only where both pages are out of range.
+    Both,
+    /// The last page is refused.
+    RefusesLast,
 }
 
 /// All faults, by name.
@@ -127,7 +186,7 @@ pub fn searched() -> impl Iterator<Item = (Plant, String)> {
 }
 
 /// All but those in lists, in sets of four, in logs and in walks.
-pub const PLANTS: [(Plant, &str); 55] = [
+pub const PLANTS: [(Plant, &str); 80] = [
     (Plant::Number, "number"),
     (Plant::Value, "value"),
     (Plant::Mark, "mark"),
@@ -180,6 +239,31 @@ pub const PLANTS: [(Plant, &str); 55] = [
     (Plant::Marks(Marks::RefusedMiss), "mark-refused-miss"),
     (Plant::Marks(Marks::Inserts), "mark-inserts"),
     (Plant::Marks(Marks::Sweeps), "mark-sweeps"),
+    (Plant::Marks(Marks::Moves), "mark-moves"),
+    (Plant::Marks(Marks::RefusedMove), "mark-refused-move"),
+    (Plant::Moves(Moves::LosesWrite), "move-loses-write"),
+    (Plant::Moves(Moves::GivesWrite), "move-gives-write"),
+    (Plant::Moves(Moves::Zeroes), "move-zeroes"),
+    (Plant::Moves(Moves::Copies), "move-copies"),
+    (Plant::Moves(Moves::Unmaps), "move-unmaps"),
+    (Plant::Moves(Moves::KeepsOld), "move-keeps-old"),
+    (Plant::Moves(Moves::Highest), "move-highest"),
+    (Plant::Moves(Moves::EachFrame), "move-each-frame"),
+    (Plant::Moves(Moves::BelowU), "move-below-u"),
+    (Plant::Moves(Moves::NoForm), "move-no-form"),
+    (Plant::Moves(Moves::DropsTag), "move-drops-tag"),
+    (Plant::Moves(Moves::Retags), "move-retags"),
+    (Plant::Moves(Moves::AsksTag), "move-asks-tag"),
+    (Plant::Moves(Moves::Exchanged), "move-exchanged"),
+    (Plant::Moves(Moves::NewFirst), "move-asks-new-first"),
+    (Plant::Moves(Moves::TakesEqual), "move-takes-equal"),
+    (Plant::Moves(Moves::RefusesEqual), "move-refuses-equal"),
+    (Plant::Moves(Moves::TakesMapped), "move-takes-mapped"),
+    (Plant::Moves(Moves::AnyNew), "move-any-new"),
+    (Plant::Moves(Moves::AnyOld), "move-any-old"),
+    (Plant::Moves(Moves::Cut), "move-cut"),
+    (Plant::Moves(Moves::Both), "move-both"),
+    (Plant::Moves(Moves::RefusesLast), "move-refuses-last"),
     (Plant::Panic, "panic"),
     (Plant::Signal, "signal"),
     (Plant::Hang, "hang"),
@@ -199,6 +283,7 @@ impl Plant {
             Plant::Number | Plant::Unfit | Plant::Asks(_) => Kind::Number,
             Plant::Value => Kind::Value,
             Plant::Mark | Plant::Marks(_) => Kind::Mark,
+            Plant::Moves(moves) => moves.found_as(),
             Plant::OffTable | Plant::MarkOffTable => Kind::Table,
             Plant::Hit | Plant::Packed => Kind::Form,
             Plant::Slots | Plant::Words | Plant::Records | Plant::Cache | Plant::Memory | Plant::Walk(_) => {
@@ -246,6 +331,14 @@ impl Plant {
         match (self, event) {
             (Plant::Asks(asks), _) => *answer = asks.answer(call, answer, model),
             (Plant::Marks(marks), _) => answer.mark = marks.mark(call, facts.line(), event, answer.mark),
+            (Plant::Moves(moves), _) => {
+                if let Call::Move { page, new_page } = *call {
+                    answer.number = moves.number(before, (page, new_page), answer.number);
+                    if answer.number == 0 {
+                        moves.leave(before, (page, new_page), real);
+                    }
+                }
+            }
             (Plant::Walk(walk), _) if answer.number == 0 => {
                 if let Some((records, memory)) = walk.left(before, call) {
                     real.records.inner_mut().copy_from_slice(&records);
@@ -414,7 +507,94 @@ impl Marks {
             (Marks::Sweeps, Event::Unmapped { written: 1.., .. } | Event::Flushed { written: 1.., .. }) => {
                 mark::WROTE_BACK
             }
+            (Marks::Sweeps, Event::Moved { old_written: 1.., .. }) => mark::WROTE_BACK,
+            (Marks::Moves, Event::Moved { .. }) => mark::REFILLED,
+            (Marks::RefusedMove, Event::Refused(_)) if matches!(call, Call::Move { .. }) => mark::REFILLED,
             _ => right,
+        }
+    }
+}
+
+impl Moves {
+    fn found_as(self) -> Kind {
+        use Moves::*;
+        match self {
+            LosesWrite | GivesWrite | Zeroes | Copies | Unmaps | KeepsOld => Kind::Buffer,
+            Highest | EachFrame | BelowU => Kind::Buffer,
+            DropsTag | Retags => Kind::Tag,
+            AsksTag | Exchanged | NewFirst | TakesEqual | RefusesEqual | TakesMapped => Kind::Number,
+            NoForm | AnyNew | AnyOld | Cut | Both | RefusesLast => Kind::Number,
+        }
+    }
+
+    /// The wrong number of a move, where `right` is the right one.
+    fn number(self, before: &Board, (page, new_page): (u64, u64), right: u32) -> u32 {
+        let is_mapped = |page: u64| mapping(&before.shape, &before.words, page).is_some();
+        let asked = |page: u64, new_page: u64| match () {
+            _ if !is_mapped(page) => 8,
+            _ if page == new_page || is_mapped(new_page) => 11,
+            _ => 0,
+        };
+        let outside = [page, new_page].map(|page| !page_in_range(page));
+        let cut = [page, new_page].map(|page| page % PAGES_END);
+        match (self, right) {
+            (_, 1) => right,
+            (Moves::NoForm, 0) if before.words.iter().any(|&word| word % 2 == 0 && word / 4 == new_page) => 11,
+            (Moves::AsksTag, 0 | 8 | 11) if before.tag.0 => 3,
+            (Moves::Exchanged, 8) => 11,
+            (Moves::Exchanged, 11) => 8,
+            (Moves::NewFirst, 8) if is_mapped(new_page) => 11,
+            (Moves::TakesEqual, 11) if page == new_page => 0,
+            (Moves::RefusesEqual, 8) if page == new_page => 11,
+            (Moves::TakesMapped, 11) if page != new_page => 0,
+            (Moves::AnyNew, 2) if outside == [false, true] => asked(page, new_page),
+            (Moves::AnyOld, 2) if outside == [true, false] => 8,
+            (Moves::Cut, 2) if cut.into_iter().all(page_in_range) => asked(cut[0], cut[1]),
+            (Moves::Both, 2) if outside.contains(&false) => asked(page, new_page),
+            (Moves::RefusesLast, _) if [page, new_page].contains(&PAGE_LAST) => 2,
+            _ => right,
+        }
+    }
+
+    /// What a wrong move that is done leaves, beside what the right one does.
+    fn leave(self, before: &Board, (page, new_page): (u64, u64), real: &mut Real) {
+        let Shape { uncached, frames, .. } = before.shape;
+        let Some((frame, _)) = mapping(&before.shape, &before.words, page) else { return };
+        let (tagged, name) = before.tag;
+        let own = [true, false].map(|write| frame_word(page, write));
+        let has_page = |frame: &u64| own.contains(&before.words[*frame as usize]);
+        let moved = |frame: u64| frame_word(new_page, before.words[frame as usize] == own[0]);
+        let words = real.words.inner_mut();
+        match self {
+            Moves::LosesWrite => words[frame as usize] = frame_word(new_page, false),
+            Moves::GivesWrite => words[frame as usize] = frame_word(new_page, true),
+            Moves::Zeroes => real.memory.inner_mut()[frame_bytes(frame)].fill(0),
+            Moves::Copies => {
+                if let Some(free) = (uncached..frames).find(|&frame| before.words[frame as usize] == 0) {
+                    words[free as usize] = words[frame as usize];
+                    words[frame as usize] = before.words[frame as usize];
+                    real.memory.inner_mut().copy_within(frame_bytes(frame), frame_bytes(free).start);
+                }
+            }
+            Moves::Unmaps => words[frame as usize] = 0,
+            Moves::KeepsOld => words[frame as usize] = before.words[frame as usize],
+            Moves::Highest => {
+                let highest = (uncached..frames).rev().find(has_page).expect("the page has a frame");
+                words[frame as usize] = before.words[frame as usize];
+                words[highest as usize] = moved(highest);
+            }
+            Moves::EachFrame => {
+                (uncached..frames).filter(has_page).for_each(|frame| words[frame as usize] = moved(frame));
+            }
+            Moves::BelowU => {
+                (0..uncached).filter(has_page).for_each(|frame| words[frame as usize] = moved(frame));
+            }
+            Moves::DropsTag if tagged => real.set_tag(0, 0),
+            Moves::Retags if tagged && page_of_name(name) == page => {
+                let (set, _) = real.tag();
+                real.set_tag(set, new_page * LINES_PER_PAGE + name % LINES_PER_PAGE);
+            }
+            _ => {}
         }
     }
 }

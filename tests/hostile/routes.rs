@@ -217,6 +217,7 @@ extern "C" {
     fn through_map(b: *mut CBoard, way: Way, page: u64, frame: usize, write: u32) -> CAnswer;
     fn through_unmap(b: *mut CBoard, way: Way, page: u64) -> CAnswer;
     fn through_protect(b: *mut CBoard, way: Way, page: u64, write: u32) -> CAnswer;
+    fn through_move(b: *mut CBoard, way: Way, page: u64, new_page: u64) -> CAnswer;
     fn through_flush_all(b: *mut CBoard, way: Way) -> CAnswer;
     fn through_tag(b: *mut CBoard, way: Way, line: u64) -> CAnswer;
     fn through_load_and_map(b: *mut CBoard, way: Way, line: usize) -> CAnswer;
@@ -535,6 +536,7 @@ unsafe fn raw_call(real: &mut Real, call: &Call, manner: &Manner) -> Told {
         }
         Call::Unmap { page } => of!(oaledva_unmap / oaledva_sets_unmap, page),
         Call::Protect { page, write } => of!(oaledva_protect / oaledva_sets_protect, page, permission(write)),
+        Call::Move { page, new_page } => of!(oaledva_move / oaledva_sets_move, page, new_page),
         Call::FlushAll => of!(oaledva_flush_all / oaledva_sets_flush_all),
         Call::Tag { name: line } => of!(oaledva_tag / oaledva_sets_tag, set, name, line),
         Call::LoadAndMap { line } => {
@@ -620,6 +622,7 @@ unsafe fn c_call(b: *mut CBoard, way: Way, call: &Call, manner: &Manner) -> Told
         Call::Map { page, frame, write } => through_map(b, way, page, frame as usize, manner.flag(write)),
         Call::Unmap { page } => through_unmap(b, way, page),
         Call::Protect { page, write } => through_protect(b, way, page, manner.flag(write)),
+        Call::Move { page, new_page } => through_move(b, way, page, new_page),
         Call::FlushAll => through_flush_all(b, way),
         Call::Tag { name } => through_tag(b, way, name),
         Call::LoadAndMap { line } => through_load_and_map(b, way, line as usize),
@@ -668,6 +671,7 @@ fn safe_call(real: &mut Real, call: &Call) -> Told {
         Call::Map { page, frame, write } => board.map(page, frame as usize, write).map(|()| 0),
         Call::Unmap { page } => board.unmap(page).map(|()| 0),
         Call::Protect { page, write } => board.protect(page, write).map(|()| 0),
+        Call::Move { page, new_page } => board.move_page(page, new_page).map(|()| 0),
         Call::FlushAll => board.flush_all().map(|()| 0),
         Call::Tag { name } => board.tag(name).map(|()| 0),
         Call::LoadAndMap { line } => board.load_and_map(line as usize).map(|()| 0),

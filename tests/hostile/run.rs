@@ -8,6 +8,7 @@ use crate::limits::{line_bytes, matrix_bytes, LINES_PER_PAGE};
 use crate::lists::{Did, List, Tally};
 use crate::logs::{self, Written};
 use crate::marks;
+use crate::moves::{self, Moved};
 use crate::plant::Plant;
 use crate::routes::{self, Manner, Route};
 use crate::sets::{self, By};
@@ -109,6 +110,9 @@ pub struct Run {
     /// The buffers after the last call that was done: what a refused one must leave.
     kept: Board,
     real: Real,
+    /// The last move that was done, as long as it counts; and whether there was one.
+    moved: Option<Moved>,
+    has_moved: bool,
     /// The entries of logs that were written.
     written: Written,
     plant: Option<Plant>,
@@ -124,6 +128,8 @@ impl Run {
             plain: start.fresh.then(|| Plain::of(&model)),
             kept: model.clone(),
             real: Real::of(&model, &start.offsets),
+            moved: None,
+            has_moved: false,
             written: Written::default(),
             model,
             plant,
@@ -177,6 +183,7 @@ impl Run {
         let set = sets::Facts::before(&self.model, call, false);
         let left = sets::left(&self.model, call);
         let met = sights::met(&self.model, call);
+        let of_move = moves::Facts::before(&self.model, call);
         let mut cases = cases::manner_cases(&self.model, call, manner);
         let (mut expected, event) = self.model.step(call);
         let (tagged, _) = self.real.tag();
@@ -202,11 +209,18 @@ impl Run {
             return Err(differs(Kind::Form, text));
         }
         self.same_tag(tagged)?;
+        let mut moves = of_move.map_or(Vec::new(), |facts| facts.sights(event));
+        moves.extend(self.moved.iter().filter(|_| answer.number != 1).flat_map(|m| m.sights(&self.kept, call, event)));
+        if answer.number == 0 {
+            self.moved = Moved::after(self.moved.take(), &self.kept, call);
+            self.has_moved |= self.moved.is_some();
+        }
         self.same_buffers(answer.number != 0)?;
         self.same_as_plain(call, &answer, event)?;
         cases.extend(cases::cases_of(&facts, call, event));
         coverage.count(self.sort, &deed, manner.route, answer.number, &cases);
         coverage.count_mark(self.sort, manner.route, marked);
+        coverage.count_move(self.sort, manner.route, call, answer.number, &moves);
         if let Some(set) = set {
             let after = self.model.uses[set.place()];
             self.count_set(&set, event, &after, manner.route, coverage)?;
@@ -249,9 +263,11 @@ impl Run {
         }
         let mut lists = routes::lend(list, manner.route).map_err(|text| differs(Kind::Form, text))?;
         let mut expected = vec![NO_ANSWER; list.answers];
-        let (mut records, mut before) = (Vec::new(), Vec::new());
+        let (mut names, mut records, mut before) = (Vec::new(), Vec::new(), Vec::new());
         let (own, events) = self.model.list_seen(&list.words(), &mut expected, |board, call| {
-            records.push(cases::name_of_call(board, call).map(|name| board.record_for(name)));
+            let name = cases::name_of_call(board, call);
+            names.push(name);
+            records.push(name.map(|name| board.record_for(name)));
             before.push(sets::Facts::before(board, call, true));
         });
         let (tagged, _) = self.real.tag();
@@ -281,6 +297,11 @@ impl Run {
         self.same_list_as_plain(list, &answer, answers)?;
         coverage.count_list(self.sort, manner.route, answer.number, &tally);
         coverage.count_mark(self.sort, manner.route, marked);
+        if let Some(moved) = &self.moved {
+            let named = names.iter().zip(&events).filter_map(|(name, event)| name.map(|name| (name, *event)));
+            let met: Vec<_> = named.flat_map(|(name, event)| moved.sights_in_list(name, event)).collect();
+            coverage.count_move_met(self.sort, manner.route, &met);
+        }
         self.count_sets(&before, &events, manner.route, coverage)?;
         Ok(Given::List(answer, answers.iter().copied().zip(events).collect()))
     }
@@ -532,7 +553,7 @@ impl Run {
             looks += 1;
         }
         self.same_buffers(true)?;
-        coverage.count_audit(self.sort, looks);
+        coverage.count_audit(self.sort, looks, self.has_moved);
         Ok(Given::Audit)
     }
 

@@ -17,12 +17,17 @@ use crate::shrink::{self, Fails};
 use crate::sights::{Size, SWEEPS};
 use crate::trace::{self, Trace};
 use crate::walks::{Walk, WRONGS};
-use crate::{apart, edges, list_runs, log_faults, log_runs, routes, search, set_faults, set_runs, values, Planned};
+use crate::{
+    apart, edges, list_runs, log_faults, log_runs, moves, routes, search, set_faults, set_runs, values, Planned,
+};
 use model::{Board, Edition, Shape};
 use std::collections::HashSet;
 
 /// Calls within which a planted fault must be found.
 const CALLS: u64 = 100_000;
+
+/// Pairs of runs within which it must show that the premise on moves is not kept.
+const PAIRS: usize = 1000;
 
 /// Damaged logs within which a fault of logs must be found.
 const LOGS: u64 = 5_000;
@@ -45,15 +50,17 @@ pub fn all() -> Result<(), String> {
     for (edition, _) in EDITIONS {
         planted_pair(edition)?;
         planted_in(edges::edges, edition, &[Plant::Slots, Plant::Unfit])?;
-        let asks: Vec<Plant> =
-            PLANTS.map(|(plant, _)| plant).into_iter().filter(|p| matches!(p, Plant::Asks(_))).collect();
-        planted_in(values::values, edition, &asks)?;
+        let those = |is: fn(&Plant) -> bool| PLANTS.map(|(plant, _)| plant).into_iter().filter(is).collect::<Vec<_>>();
+        planted_in(values::values, edition, &those(|plant| matches!(plant, Plant::Asks(_))))?;
+        planted_in(moves::moves, edition, &those(|plant| matches!(plant, Plant::Moves(_))))?;
         let lists = FAULTS.into_iter().filter(|(_, _, kind)| *kind != Kind::Signal);
         planted_in(list_runs::lists, edition, &lists.map(|(wrong, ..)| Plant::List(wrong)).collect::<Vec<_>>())?;
     }
     println!("in each edition: planted fault in a pair of runs found");
+    println!("pairs told apart without a premise on moves, and with one on the segments that are held at the move");
     println!("planted faults on a board at a limit and on one past it found");
     println!("planted faults in what is asked of values found beside the numbers");
+    println!("planted faults in moves found in the planned ones");
     println!("planted faults in lists found in the planned ones");
     for (edition, _) in EDITIONS {
         planted_walks(edition)?;
@@ -235,11 +242,18 @@ fn hang() -> Result<(), String> {
     }
 }
 
+/// What is wrong in pairs must be found in one of so many: where values are altered, in the first.
 fn planted_pair(edition: Edition) -> Result<(), String> {
-    match pairs::pair(&mut Rng::new(7), edition, &mut Coverage::new(), true) {
-        Err(Failure::Apart(..)) => Ok(()),
-        _ => Err("planted fault in a pair of runs: not found".into()),
+    let faults = [(pairs::Wrong::Value, 1), (pairs::Wrong::AnyBytes, PAIRS), (pairs::Wrong::HeldOnly, PAIRS)];
+    for (wrong, tries) in faults {
+        let (mut rng, mut coverage) = (Rng::new(7), Coverage::new());
+        let mut pair =
+            |_| matches!(pairs::pair(&mut rng, edition, &mut coverage, Some(wrong)), Err(Failure::Apart(..)));
+        if !(0..tries).any(&mut pair) {
+            return Err(format!("planted fault {wrong:?} in pairs of runs: not found"));
+        }
     }
+    Ok(())
 }
 
 /// Each of these faults must be found in planned runs.

@@ -72,11 +72,14 @@ faults! {
     UseMissed "set-use-missed" Uses PAGED, PAGED, "A refused access to a line that is not held is a use of the victim.";
     UseUncached "set-use-uncached" Uses &[User], USES, "An access under prefix 0 is a use of the victim.";
     UseProtect "set-use-protect" Uses &[User], PAGED, "Protect is a use.";
+    UseMove "set-use-move" Uses &[User], PAGED, "Move is a use of the page's lines.";
+    UseMoveNew "set-use-move-new" Uses &[User], NONE, "Move is a use of the new page's lines.";
     UseLook "set-use-look" Uses &[User], USES, "A look is a use.";
     // What drops do.
     DropRow "set-drop-row" Uses &[User, Prefix1], USES, "To drop a line clears its row.";
     DropColumn "set-drop-column" Uses &[User, Prefix1], USES, "To drop a line clears its column.";
     DropMatrix "set-drop-matrix" Uses &[User, Prefix1], USES, "To drop a line clears the matrix.";
+    MoveClears "set-move-clears" Uses &[User], PAGED, "A move clears the matrices of its lines.";
     FlushClears "set-flush-clears" Uses &[User], USES, "Flush all clears the matrices.";
     // What is refused by 1.
     TakesOneLine "set-takes-1" Number NONE, NONE, "L = 1 is taken.";
@@ -191,18 +194,27 @@ impl Library {
                 let name = name_of_call(board, call).expect("an access to a line");
                 self.use_at(board, board.victim(place_of(name, board.sets())));
             }
-            Event::Protected { .. } if self.is(Wrong::UseProtect) => {
-                let Call::Protect { page, .. } = *call else { return };
+            Event::Protected { .. } | Event::Moved { .. } if self.used_page(call).is_some() => {
                 for at in board.all_records() {
-                    if board.held(at).is_some_and(|record| page_of_name(record.name) == page) {
+                    if before.held(at).is_some_and(|record| Some(page_of_name(record.name)) == self.used_page(call)) {
                         self.use_at(board, at);
                     }
                 }
             }
-            Event::Mapped { .. } | Event::Unmapped { .. } | Event::Flushed { .. } => {
+            Event::Mapped { .. } | Event::Unmapped { .. } | Event::Moved { .. } | Event::Flushed { .. } => {
                 self.drop_lines(board, &before, call)
             }
             _ => {}
+        }
+    }
+
+    /// The page whose lines a call uses that uses none.
+    fn used_page(self, call: &Call) -> Option<u64> {
+        match (self.0, *call) {
+            (Some(Wrong::UseProtect), Call::Protect { page, .. }) => Some(page),
+            (Some(Wrong::UseMove), Call::Move { page, .. }) => Some(page),
+            (Some(Wrong::UseMoveNew), Call::Move { new_page, .. }) => Some(new_page),
+            _ => None,
         }
     }
 
@@ -355,6 +367,7 @@ impl Library {
                 Some(Wrong::DropRow) => matrix[line] = [0; LINES],
                 Some(Wrong::DropColumn) => matrix.iter_mut().for_each(|row| row[line] = 0),
                 Some(Wrong::DropMatrix) => *matrix = model::FRESH_MATRIX,
+                Some(Wrong::MoveClears) if matches!(call, Call::Move { .. }) => *matrix = model::FRESH_MATRIX,
                 _ => {}
             }
         }

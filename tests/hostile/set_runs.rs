@@ -106,6 +106,11 @@ fn unmap(index: u64) -> Call {
     Call::Unmap { page: page_of(By::User, index) }
 }
 
+/// A page moved, and back again.
+fn moves(page: u64, new_page: u64) -> [Call; 2] {
+    [Call::Move { page, new_page }, Call::Move { page: new_page, new_page: page }]
+}
+
 // ---------------------------------------------------------------------------------------------
 // Fresh boards
 // ---------------------------------------------------------------------------------------------
@@ -354,7 +359,12 @@ impl Script {
         let global = PLAYED * LINE_BYTES;
         self.call(Call::SupervisorAccess { store: true, width: 1, global, value: 1 });
         if self.by != By::Prefix1 {
-            self.call(Call::Protect { page: name / LINES_PER_PAGE, write: true });
+            let page = name / LINES_PER_PAGE;
+            let [away, back] = moves(page, page_of(By::User, UNMAPPED));
+            self.call(Call::Protect { page, write: true });
+            self.call(away);
+            self.call(back);
+            self.full([0, 1, 2, 3]);
         }
         self.drop_line(PLAYED, 1);
         self.full([0, 1, 2, 3]);
@@ -424,6 +434,8 @@ enum Act {
     MapFrame,
     Unmap,
     Protect,
+    MoveOld,
+    MoveNew,
     FlushAll,
     Prefix0,
 }
@@ -514,9 +526,9 @@ fn refusals(by: By) -> Vec<Scene> {
     }
     match by {
         By::User => {
-            let acts = [Act::Look, Act::Unmap, Act::Protect, Act::FlushAll, Act::Prefix0];
+            let acts = [Act::Look, Act::Unmap, Act::Protect, Act::MoveOld, Act::FlushAll, Act::Prefix0];
             all.extend(of_users().into_iter().chain(acts.map(Scene::held)));
-            all.push(Scene { page: UNMAPPED, ..Scene::held(Act::MapPage) });
+            all.extend([Act::MapPage, Act::MoveNew].map(|act| Scene { page: UNMAPPED, ..Scene::held(act) }));
         }
         By::List => all.extend(of_users()),
         By::Prefix1 => all.push(Scene::held(Act::MapFrame)),
@@ -572,6 +584,8 @@ impl Scene {
             Act::MapFrame => Call::Map { page: page_of(By::User, 0), frame: FIRST_FRAME, write: true },
             Act::Unmap => Call::Unmap { page },
             Act::Protect => Call::Protect { page, write: true },
+            Act::MoveOld => moves(page, page_of(By::User, UNMAPPED))[0],
+            Act::MoveNew => moves(page_of(By::User, 0), page)[0],
             Act::FlushAll => Call::FlushAll,
             Act::Prefix0 => Call::SupervisorAccess { store: false, width: 1, global: self.set * LINE_BYTES, value: 0 },
         };

@@ -8,7 +8,10 @@ use model::{kind_of, ones, page_of_name, place_of, used, Board, Call, Edition, E
 use std::collections::HashMap;
 use std::fmt::Arguments;
 use std::sync::OnceLock;
-use By::{FlushAll, Inserts, List, Look, MapFrame, MapPage, Ordinary, Prefix0, Prefix1, Protect, Unmap, User};
+use By::{
+    FlushAll, Inserts, List, Look, MapFrame, MapPage, MoveNew, MoveOld, Ordinary, Prefix0, Prefix1, Protect, Unmap,
+    User,
+};
 
 /// The lines of a set.
 pub const LINES: usize = set_lines(Edition::Fours) as usize;
@@ -114,7 +117,7 @@ pub fn change(before: &Matrix, line: usize, after: &Matrix) -> Result<usize, Str
 // ---------------------------------------------------------------------------------------------
 
 /// By what a line of a set is used, filled, dropped or looked at. A list is of users' accesses; map drops by the page's names, and
-/// by the frame's prefix 1 names.
+/// by the frame's prefix 1 names, move by the old page's, and by the new one's.
 #[derive(Clone, Copy, Debug, PartialEq, Eq)]
 pub enum By {
     User,
@@ -127,11 +130,13 @@ pub enum By {
     MapFrame,
     Unmap,
     Protect,
+    MoveOld,
+    MoveNew,
     FlushAll,
     Look,
 }
 
-pub const BYS: [(By, &str); 12] = [
+pub const BYS: [(By, &str); 14] = [
     (User, "user access"),
     (List, "an access of a list"),
     (Ordinary, "supervisor access, ordinary"),
@@ -142,6 +147,8 @@ pub const BYS: [(By, &str); 12] = [
     (MapFrame, "map, the frame's prefix 1 line"),
     (Unmap, "unmap"),
     (Protect, "protect"),
+    (MoveOld, "move, the page's line"),
+    (MoveNew, "move, the new page's line"),
     (FlushAll, "flush all"),
     (Look, "look"),
 ];
@@ -216,8 +223,8 @@ sights! {
     Missed8 "refused by 8, the line not held": &[User, List, Ordinary, Inserts], &[User, List, Ordinary, Inserts];
     Missed9 "refused by 9, the line not held": USERS, USERS;
     Leaves "leaves the matrix, which a use of the line would change, and so would its clearing":
-        &[Inserts, Prefix0, MapPage, MapFrame, Unmap, Protect, FlushAll, Look],
-        &[Inserts, Prefix0, MapFrame, Unmap, Protect, FlushAll, Look];
+        &[Inserts, Prefix0, MapPage, MapFrame, Unmap, Protect, MoveOld, MoveNew, FlushAll, Look],
+        &[Inserts, Prefix0, MapFrame, Unmap, Protect, MoveOld, FlushAll, Look];
 }
 
 const FOUND: [Sight; LINES] = [Sight::Found0, Sight::Found1, Sight::Found2, Sight::Found3];
@@ -420,6 +427,7 @@ pub fn left(board: &Board, call: &Call) -> Vec<By> {
         Call::Map { page, frame, .. } => vec![(MapPage, Some(page)), (MapFrame, Some(prefix1(frame)))],
         Call::Unmap { page } => vec![(Unmap, Some(page))],
         Call::Protect { page, .. } => vec![(Protect, Some(page))],
+        Call::Move { page, new_page } => vec![(MoveOld, Some(page)), (MoveNew, Some(new_page))],
         Call::FlushAll => vec![(FlushAll, None)],
         _ => return Vec::new(),
     };

@@ -1,5 +1,5 @@
-//! What map, unmap, protect and flush all meet at the places of a page. CR 3 has a call visit the places of a page's 256 names
-//! and no others, so what stands at these decides whether it visits the right ones: lines at both ends of them; beside and
+//! What map, unmap, protect, move and flush all meet at the places of a page. CR 3 has a call visit the places of a page's 256
+//! names and no others, so what stands at these decides whether it visits the right ones: lines at both ends of them; beside and
 //! among them lines that are not the page's, and records that only look like its lines; lines that share a physical line. At a
 //! place stands one record, or in sets of four there stand four, one after another: what follows speaks of records. All is
 //! counted in every run, by how many sets the board has and by route; the planned runs of `places.rs` reach it.
@@ -10,23 +10,33 @@ use std::cmp::Ordering;
 use std::collections::BTreeMap;
 use std::ops::Range;
 use Size::{Few, Many, Most, One, Page};
-use Sweep::{FlushAll, MapFrame, MapPage, Protect, Unmap};
+use Sweep::{FlushAll, MapFrame, MapPage, MoveNew, MoveOld, Protect, Unmap};
 
-/// Whose lines a call takes: map takes those of the page and those of the frame's prefix 1 range; flush all takes all.
+/// Whose lines a call takes: map takes those of the page and those of the frame's prefix 1 range; move takes those of the old page
+/// and those of the new one; flush all takes all.
 #[derive(Clone, Copy, Debug, PartialEq, Eq)]
 pub enum Sweep {
     MapPage,
     MapFrame,
     Unmap,
     Protect,
+    MoveOld,
+    MoveNew,
     FlushAll,
 }
 
-pub const SWEEPS: [(Sweep, &str); 5] =
-    [(MapPage, "map"), (MapFrame, "map prefix 1"), (Unmap, "unmap"), (Protect, "protect"), (FlushAll, "flush all")];
+pub const SWEEPS: [(Sweep, &str); 7] = [
+    (MapPage, "map"),
+    (MapFrame, "map prefix 1"),
+    (Unmap, "unmap"),
+    (Protect, "protect"),
+    (MoveOld, "move"),
+    (MoveNew, "move new"),
+    (FlushAll, "flush all"),
+];
 
 /// The sweeps of a page's lines; a frame's prefix 1 range has 256 names as a page has.
-pub const PAGES: &[Sweep] = &[MapPage, MapFrame, Unmap, Protect];
+pub const PAGES: &[Sweep] = &[MapPage, MapFrame, Unmap, Protect, MoveOld, MoveNew];
 
 /// How many sets a board has; with one line to a place, how many lines.
 #[derive(Clone, Copy, Debug, PartialEq, Eq)]
@@ -63,8 +73,16 @@ pub const FEWER: &[Size] = &[Few];
 pub const FEWEST: &[Size] = &[One, Few];
 pub const MORE: &[Size] = &[Many, Most];
 
-/// On a fresh board no line is held of a page that is about to be mapped.
-pub const HELD: &[Sweep] = &[MapFrame, Unmap, Protect];
+/// On a fresh board no line is held of a page that is about to be mapped, by map or by move.
+pub const HELD: &[Sweep] = &[MapFrame, Unmap, Protect, MoveOld];
+
+/// Of two ranges: a frame's prefix 1 range beside the page; the old page beside the new one, and that beside it. The second of each.
+pub const BESIDE: &[Sweep] = &[MapFrame, MoveOld, MoveNew];
+pub const BESIDE_HELD: &[Sweep] = &[MapFrame, MoveOld];
+const SECOND: &[Sweep] = &[MapFrame, MoveNew];
+
+/// Where lines are written back: of a page.
+pub const WRITTEN: &[Sweep] = &[Unmap, MoveOld, MoveNew];
 pub const NONE: &[Sweep] = &[];
 
 /// By which sweeps something is met on wild boards, by which on fresh ones, and with how many sets.
@@ -86,7 +104,8 @@ macro_rules! sights {
         #[derive(Clone, Copy, Debug, PartialEq, Eq)]
         pub enum Sight { $($sight),* }
 
-        /// In words, where "it" is the page, or the frame's prefix 1 range; and where it must be met.
+        /// In words, where "it" is the page, the frame's prefix 1 range, or the new page, and "the other" the range beside it; and
+        /// where it must be met.
         pub const SIGHTS: &[(Sight, &str, Where)] =
             &[$((Sight::$sight, $words, Where { wild: $wild, fresh: $fresh, sizes: $sizes })),*];
     };
@@ -109,16 +128,19 @@ sights! {
     Astray "a valid record of it at none of its places": PAGES, NONE, MORE;
     Beyond "a valid record of it with a line beyond memory": PAGES, NONE, ANY;
     Invalid "a record of it that is not valid": PAGES, NONE, ANY;
-    Twice "two changed lines of one physical line, half of the places apart": &[Unmap, FlushAll], NONE, SEVERAL;
-    Crossed "two changed lines of one physical line, the higher name in the lower record": &[Unmap], NONE, FEWER;
-    Elsewhere "a changed line of it whose physical line is not where it is mapped": &[Unmap], NONE, ANY;
-    Prefix1 "a line of its frame's prefix 1 range": &[Unmap, Protect], NONE, ANY;
-    Same "prefix 1 lines at both ends of their places, which are the page's": &[MapFrame], &[MapFrame], ANY;
-    Below "prefix 1 lines at both ends of their places, below the page's": &[MapFrame], &[MapFrame], MORE;
-    Above "prefix 1 lines at both ends of their places, above the page's": &[MapFrame], &[MapFrame], MORE;
-    BothSame "prefix 1 lines and the page's at the same places": &[MapFrame], NONE, SEVERAL;
-    BothBelow "prefix 1 lines below the page's": &[MapFrame], NONE, MORE;
-    BothAbove "prefix 1 lines above the page's": &[MapFrame], NONE, MORE;
+    Twice "two changed lines of one physical line, half of the places apart":
+        &[Unmap, MoveOld, MoveNew, FlushAll], NONE, SEVERAL;
+    Crossed "two changed lines of one physical line, the higher name in the lower record": WRITTEN, NONE, FEWER;
+    Elsewhere "a changed line of it whose physical line is not where it is mapped, or will be": WRITTEN, NONE, ANY;
+    Prefix1 "a line of its frame's prefix 1 range": &[Unmap, Protect, MoveOld], NONE, ANY;
+    Same "lines of it at both ends of its places, which are the other's": BESIDE, BESIDE_HELD, ANY;
+    Below "lines of it at both ends of its places, below the other's": BESIDE, BESIDE_HELD, MORE;
+    Above "lines of it at both ends of its places, above the other's": BESIDE, BESIDE_HELD, MORE;
+    BothSame "lines of it and of the other at the same places": SECOND, NONE, SEVERAL;
+    BothBelow "lines of it below lines of the other": SECOND, NONE, MORE;
+    BothAbove "lines of it above lines of the other": SECOND, NONE, MORE;
+    OtherFirst "a changed line of it with the physical line of a changed one of the other in a lower record":
+        &[MoveOld, MoveNew], NONE, SEVERAL;
     Ends "changed lines in the first record of all and in the last": &[FlushAll], &[FlushAll], ANY;
     Quarters "a changed line in each quarter of the records": &[FlushAll], &[FlushAll], SEVERAL;
 }
@@ -154,11 +176,19 @@ pub fn met(board: &Board, call: &Call) -> Vec<(Sweep, Vec<Sight>)> {
         }
         Call::Unmap { page } if page_in_range(page) => {
             let own = Ground::of(board, page, page);
-            vec![(Unmap, [own.sights(), own.sights_of_mapped(), own.sights_of_changed()].concat())]
+            vec![(Unmap, [own.sights(), own.sights_of_mapped(page), own.sights_of_changed()].concat())]
         }
         Call::Protect { page, .. } if page_in_range(page) => {
             let own = Ground::of(board, page, page);
-            vec![(Protect, [own.sights(), own.sights_of_mapped()].concat())]
+            vec![(Protect, [own.sights(), own.sights_of_mapped(page)].concat())]
+        }
+        Call::Move { page, new_page } if page_in_range(page) && page_in_range(new_page) => {
+            let (old, new) = (Ground::of(board, page, new_page), Ground::of(board, new_page, page));
+            let written = |own: &Ground, other: &Ground| {
+                let alone = [own.sights(), own.sights_of_mapped(page), own.sights_of_changed()].concat();
+                [alone, own.sights_beside(other), own.sights_after(other)].concat()
+            };
+            vec![(MoveOld, written(&old, &new)), (MoveNew, written(&new, &old))]
         }
         Call::FlushAll => vec![(FlushAll, sights_of_all(board))],
         _ => Vec::new(),
@@ -293,19 +323,19 @@ impl Ground<'_> {
         ])
     }
 
-    /// What the sweep of a frame's prefix 1 range may meet, beside the page's places.
-    fn sights_beside(&self, page: &Ground) -> Vec<Sight> {
-        let (ends, both) = match self.records.start.cmp(&page.records.start) {
+    /// What the sweep of one of two ranges may meet, beside the other's places.
+    fn sights_beside(&self, other: &Ground) -> Vec<Sight> {
+        let (ends, both) = match self.records.start.cmp(&other.records.start) {
             Ordering::Equal => (Sight::Same, Sight::BothSame),
             Ordering::Less => (Sight::Below, Sight::BothBelow),
             Ordering::Greater => (Sight::Above, Sight::BothAbove),
         };
-        those([(self.at_both_ends(), ends), (!self.own.is_empty() && !page.own.is_empty(), both)])
+        those([(self.at_both_ends(), ends), (!self.own.is_empty() && !other.own.is_empty(), both)])
     }
 
-    /// What may be met of a page that is mapped.
-    fn sights_of_mapped(&self) -> Vec<Sight> {
-        let Some((frame, _)) = mapping(&self.board.shape, &self.board.words, self.page) else { return Vec::new() };
+    /// What may be met of the frame of a page that is mapped: of this one, or of one that this one will take its frame from.
+    fn sights_of_mapped(&self, page: u64) -> Vec<Sight> {
+        let Some((frame, _)) = mapping(&self.board.shape, &self.board.words, page) else { return Vec::new() };
         let prefix1 = Ground::of(self.board, PREFIX1_PAGE + frame, self.page);
         those([
             (!prefix1.own.is_empty(), Sight::Prefix1),
@@ -321,6 +351,15 @@ impl Ground<'_> {
             (apart(&doubles, records / 2), Sight::Twice),
             (doubles.iter().any(|[low, high]| low.record.name > high.record.name), Sight::Crossed),
         ])
+    }
+
+    /// What may be met where lines of two ranges are written back, by rising record.
+    fn sights_after(&self, other: &Ground) -> Vec<Sight> {
+        let mut changed: Vec<&Held> = self.changed().chain(other.changed()).collect();
+        changed.sort_unstable_by_key(|held| held.at);
+        let pages = doubles(self.board, changed.into_iter()).into_iter();
+        let mut pages = pages.map(|lines| lines.map(|held| page_of_name(held.record.name)));
+        those([(pages.any(|pages| pages == [other.page, self.page]), Sight::OtherFirst)])
     }
 }
 

@@ -129,6 +129,10 @@ through_answer through_protect(oaledva_sets_board *b, through_way way, uint64_t 
     return unpacked(EITHER(protect, page, permission));
 }
 
+through_answer through_move(oaledva_sets_board *b, through_way way, uint64_t page, uint64_t new_page) {
+    return unpacked(EITHER(move, page, new_page));
+}
+
 through_answer through_flush_all(oaledva_sets_board *b, through_way way) {
     if (way.sets) {
         return unpacked(way.by_board ? oaledva_sets_board_flush_all(b) : oaledva_sets_flush_all(OALEDVA_SETS_LEND(*b)));
@@ -161,14 +165,14 @@ uint32_t through_look_number(oaledva_sets_board *b, through_way way, size_t line
 }
 
 /* ---- logs: kinds and reasons by their names, and the sizes */
-enum { LOG_CONSTANTS = 12 + 6 + 3 };
+enum { LOG_CONSTANTS = 13 + 6 + 3 };
 
 void through_log_constants(size_t constants[LOG_CONSTANTS]) {
     static const size_t all[LOG_CONSTANTS] = {
         OALEDVA_LOG_HEADER, OALEDVA_LOG_USER_ACCESS, OALEDVA_LOG_SUPERVISOR_ACCESS, OALEDVA_LOG_ATTACH,
         OALEDVA_LOG_DETACH, OALEDVA_LOG_MAP, OALEDVA_LOG_UNMAP, OALEDVA_LOG_PROTECT, OALEDVA_LOG_FLUSH_ALL,
-        OALEDVA_LOG_TAG, OALEDVA_LOG_LOAD_AND_MAP, OALEDVA_LOG_DROP_TAG, OALEDVA_LOG_MISFIT, OALEDVA_LOG_PADDED,
-        OALEDVA_LOG_TENTH_BYTE, OALEDVA_LOG_CUT, OALEDVA_LOG_UNKNOWN_KIND, OALEDVA_LOG_TOO_LARGE,
+        OALEDVA_LOG_TAG, OALEDVA_LOG_LOAD_AND_MAP, OALEDVA_LOG_DROP_TAG, OALEDVA_LOG_MOVE, OALEDVA_LOG_MISFIT,
+        OALEDVA_LOG_PADDED, OALEDVA_LOG_TENTH_BYTE, OALEDVA_LOG_CUT, OALEDVA_LOG_UNKNOWN_KIND, OALEDVA_LOG_TOO_LARGE,
         OALEDVA_LOG_ENTRY_WORDS, OALEDVA_LOG_ENTRY_BYTES, OALEDVA_LOG_STATE_WORDS,
     };
     for (int i = 0; i < LOG_CONSTANTS; i++) constants[i] = all[i];
@@ -255,6 +259,7 @@ static oaledva_log_entry made(const oaledva_log_entry *entry, uint32_t yes) {
     case OALEDVA_LOG_TAG: return oaledva_tag_call(of[0]);
     case OALEDVA_LOG_LOAD_AND_MAP: return oaledva_load_and_map_call(of[0]);
     case OALEDVA_LOG_DROP_TAG: return oaledva_drop_tag_call();
+    case OALEDVA_LOG_MOVE: return oaledva_move_call(of[0], of[1]);
     }
     return *entry;
 }

@@ -89,6 +89,7 @@ fn parts(deed: &Deed) -> (&'static str, Vec<(&'static str, u64)>) {
         }
         Deed::Call(Call::Unmap { page }) => ("unmap", vec![("page", page)]),
         Deed::Call(Call::Protect { page, write }) => ("protect", vec![("page", page), ("write", write.into())]),
+        Deed::Call(Call::Move { page, new_page }) => ("move", vec![("page", page), ("new-page", new_page)]),
         Deed::Call(Call::FlushAll) => ("flush-all", vec![]),
         Deed::Call(Call::Tag { name }) => ("tag", vec![("name", name)]),
         Deed::Call(Call::LoadAndMap { line }) => ("load-and-map", vec![("line", line)]),
@@ -231,6 +232,7 @@ fn deed_of(name: &str, arguments: &Arguments) -> Result<Deed, String> {
         "map" => Deed::Call(Call::Map { page: get("page")?, frame: get("frame")?, write: flag("write")? }),
         "unmap" => Deed::Call(Call::Unmap { page: get("page")? }),
         "protect" => Deed::Call(Call::Protect { page: get("page")?, write: flag("write")? }),
+        "move" => Deed::Call(Call::Move { page: get("page")?, new_page: get("new-page")? }),
         "flush-all" => Deed::Call(Call::FlushAll),
         "tag" => Deed::Call(Call::Tag { name: get("name")? }),
         "load-and-map" => Deed::Call(Call::LoadAndMap { line: get("line")? }),

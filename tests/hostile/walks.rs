@@ -1,14 +1,16 @@
-//! Planted faults in which records map, unmap, protect and flush all visit, in which order, and which lines they take there:
-//! the wrong shortcuts that CR 3 invites, and with sets of four CR 4. Each makes of a board what a library with that fault would.
+//! Planted faults in which records map, unmap, protect, move and flush all visit, in which order, which lines they take there and
+//! what becomes of these: the wrong shortcuts that CR 3 invites, with sets of four CR 4, and CR 9. Each makes of a board what a
+//! library with that fault would.
 
 use crate::gen::put;
 use crate::limits::*;
 use crate::sights::{
-    inside, records_of, stands, Size, Sweep, Where, ANY, FEWER, HELD, MORE, NONE, PAGES, SEVERAL, SWEEPS,
+    inside, records_of, stands, Size, Sweep, Where, ANY, BESIDE, BESIDE_HELD, FEWER, HELD, MORE, NONE, PAGES, SEVERAL,
+    SWEEPS, WRITTEN,
 };
 use model::{mapping, page_of_name, Board, Call, Edition, Record};
 use std::ops::Range;
-use Sweep::{FlushAll, MapFrame, MapPage, Protect, Unmap};
+use Sweep::{FlushAll, MapFrame, MapPage, MoveNew, MoveOld, Protect, Unmap};
 
 /// What is wrong in a sweep.
 #[derive(Clone, Copy, Debug, PartialEq, Eq)]
@@ -25,7 +27,7 @@ pub enum Wrong {
     NextPage,
     /// The places from page mod their number up are visited.
     PageModLines,
-    /// The frame's places are visited only where they are the page's.
+    /// Of two ranges, the places of this one are visited only where they are the other's.
     PagePlaces,
     /// The first 256 places are visited.
     FirstPlaces,
@@ -33,6 +35,10 @@ pub enum Wrong {
     Falling,
     /// By rising name.
     ByName,
+    /// All lines of the old page, then all of the new one.
+    TwoWalks,
+    /// All lines of the new page, then all of the old one.
+    NewFirst,
     /// Of each set only the first line is visited.
     FirstLines,
     /// Of each set only the first three lines are visited.
@@ -59,36 +65,47 @@ pub enum Wrong {
     Prefix1,
     /// Changed lines are written back.
     WritesBack,
-    /// Changed lines are written to where the page is mapped.
+    /// Changed lines are written to where the page is mapped, or will be.
     ThroughMap,
+    /// Changed lines are not written back.
+    Loses,
+    /// Lines are written back and stay.
+    Keeps,
+    /// Lines of the old page become lines of the new one.
+    Renames,
 }
 
 /// With its name, and where it shows.
-pub const WRONGS: [(Wrong, &str, Where); 24] = [
+pub const WRONGS: [(Wrong, &str, Where); 29] = [
     (Wrong::Forgets, "forgets", at(PAGES, HELD, ANY)),
     (Wrong::ShortEnd, "short-end", at(EACH, EACH_HELD, ANY)),
     (Wrong::ShortStart, "short-start", at(EACH, EACH_HELD, ANY)),
     (Wrong::Half, "half", at(PAGES, HELD, FEWER)),
     (Wrong::NextPage, "next-page", at(PAGES, HELD, MORE)),
     (Wrong::PageModLines, "page-mod-lines", at(PAGES, HELD, MORE)),
-    (Wrong::PagePlaces, "page-places", at(&[MapFrame], &[MapFrame], MORE)),
+    (Wrong::PagePlaces, "page-places", at(BESIDE, BESIDE_HELD, MORE)),
     (Wrong::FirstPlaces, "first-places", at(&[FlushAll], &[FlushAll], MORE)),
-    (Wrong::Falling, "falling", at(&[Unmap, FlushAll], NONE, SEVERAL)),
-    (Wrong::ByName, "by-name", at(&[Unmap], NONE, FEWER)),
+    (Wrong::Falling, "falling", at(WHOLE, NONE, SEVERAL)),
+    (Wrong::ByName, "by-name", at(&[Unmap, MoveOld], NONE, FEWER)),
+    (Wrong::TwoWalks, "two-walks", at(&[MoveOld], NONE, SEVERAL)),
+    (Wrong::NewFirst, "new-first", at(&[MoveOld], NONE, SEVERAL)),
     (Wrong::AnyName, "any-name", at(PAGES, PAGES, ANY)),
     (Wrong::Alike, "alike", at(PAGES, PAGES, ANY)),
     (Wrong::LowBits, "low-bits", at(PAGES, NONE, ANY)),
     (Wrong::Strays, "strays", at(PAGES, NONE, SEVERAL)),
     (Wrong::Beyond, "beyond", at(PAGES, NONE, ANY)),
     (Wrong::Invalid, "invalid", at(PAGES, NONE, ANY)),
-    (Wrong::Prefix1, "prefix-1", at(&[Unmap, Protect], NONE, ANY)),
+    (Wrong::Prefix1, "prefix-1", at(&[Unmap, Protect, MoveOld], NONE, ANY)),
     (Wrong::WritesBack, "writes-back", at(&[MapPage, MapFrame], NONE, ANY)),
-    (Wrong::ThroughMap, "through-map", at(&[Unmap], NONE, ANY)),
+    (Wrong::ThroughMap, "through-map", at(WRITTEN, NONE, ANY)),
+    (Wrong::Loses, "loses", at(EACH_WRITTEN, WHOLE, ANY)),
+    (Wrong::Keeps, "keeps", at(EACH_WRITTEN, WHOLE, ANY)),
+    (Wrong::Renames, "renames", at(&[MoveOld], &[MoveOld], ANY)),
     (Wrong::FirstLines, "first-lines", at(EACH, EACH_HELD, ANY)),
     (Wrong::ThreeLines, "three-lines", at(EACH, EACH_HELD, ANY)),
     (Wrong::AsPlaces, "as-places", at(EACH, EACH_HELD, ANY)),
     (Wrong::PlaceAsRecord, "place-as-record", at(PAGES, HELD, MORE)),
-    (Wrong::ByLine, "by-line", at(&[Unmap, FlushAll], NONE, SEVERAL)),
+    (Wrong::ByLine, "by-line", at(WHOLE, NONE, SEVERAL)),
 ];
 
 impl Wrong {
@@ -100,8 +117,12 @@ impl Wrong {
     }
 }
 
-const EACH: &[Sweep] = &[MapPage, MapFrame, Unmap, Protect, FlushAll];
-const EACH_HELD: &[Sweep] = &[MapFrame, Unmap, Protect, FlushAll];
+const EACH: &[Sweep] = &[MapPage, MapFrame, Unmap, Protect, MoveOld, MoveNew, FlushAll];
+const EACH_HELD: &[Sweep] = &[MapFrame, Unmap, Protect, MoveOld, FlushAll];
+const EACH_WRITTEN: &[Sweep] = &[Unmap, MoveOld, MoveNew, FlushAll];
+
+/// Where lines are written back, each once: a move is one walk over both pages' lines.
+const WHOLE: &[Sweep] = &[Unmap, MoveOld, FlushAll];
 
 const fn at(wild: &'static [Sweep], fresh: &'static [Sweep], sizes: &'static [Size]) -> Where {
     Where { wild, fresh, sizes }
@@ -123,46 +144,90 @@ pub fn walks() -> impl Iterator<Item = (Walk, String)> {
 }
 
 impl Walk {
+    pub fn is_of_move(self) -> bool {
+        matches!(self.sweep, MoveOld | MoveNew)
+    }
+
     /// The records and the memory of a board after a call that is done; none if the call doesn't have this sweep.
     pub fn left(self, before: &Board, call: &Call) -> Option<(Vec<u64>, Vec<u8>)> {
         let mut board = before.clone();
-        for pass in self.passes(before, call)? {
-            pass.make(&mut board);
+        for passes in self.rounds(before, call)? {
+            self.make(&passes, &mut board);
         }
         if let Call::Map { frame, .. } = *call {
-            board.memory[(frame * PAGE_BYTES) as usize..][..PAGE_BYTES as usize].fill(0);
+            board.memory[frame_bytes(frame)].fill(0);
         }
         Some((board.records, board.memory))
     }
 
-    fn passes(self, board: &Board, call: &Call) -> Option<Vec<Pass>> {
+    /// Passes that are made one after another, or some of them together.
+    fn rounds(self, board: &Board, call: &Call) -> Option<Vec<Vec<Pass>>> {
         let all = 0..board.shape.lines;
         let pass = |page: u64, act: Act| Pass { wrong: self.wrong, page: Some(page), within: all.clone(), act };
         let right = |page: u64, act: Act| Pass { wrong: None, ..pass(page, act) };
         let is = |wrong: Wrong| self.wrong == Some(wrong);
         let frame_of = |page: u64| mapping(&board.shape, &board.words, page).map(|(frame, _)| frame);
-        let with_prefix1 = |page: u64, act: Act| {
+        let with_prefix1 = |page: u64, own: Vec<Pass>, act: Act| {
             let prefix1 = frame_of(page).filter(|_| is(Wrong::Prefix1)).map(|frame| right(PREFIX1_PAGE + frame, act));
-            [pass(page, act)].into_iter().chain(prefix1).collect()
+            [own].into_iter().chain(prefix1.map(|pass| vec![pass])).collect()
         };
-        let dropped = if is(Wrong::WritesBack) { Act::WriteBack(None) } else { Act::Drop };
+        let dropped = if is(Wrong::WritesBack) { WRITE_BACK } else { Act::Drop };
+        let written = |page: u64| match self.wrong {
+            Some(Wrong::ThroughMap) => Act::WriteBack { through: frame_of(page), keeps: false },
+            Some(Wrong::Keeps) => Act::WriteBack { through: None, keeps: true },
+            Some(Wrong::Loses) => Act::Drop,
+            _ => WRITE_BACK,
+        };
+        // A pass over one of two ranges.
+        let beside = |page: u64, other: u64, act: Act| {
+            let others = || records_of(other, board.edition, all.end);
+            Pass { within: if is(Wrong::PagePlaces) { others() } else { all.clone() }, ..pass(page, act) }
+        };
         Some(match (*call, self.sweep) {
             (Call::Map { page, frame, .. }, MapPage) => {
-                vec![pass(page, dropped), right(PREFIX1_PAGE + frame, Act::Drop)]
+                vec![vec![pass(page, dropped)], vec![right(PREFIX1_PAGE + frame, Act::Drop)]]
             }
             (Call::Map { page, frame, .. }, MapFrame) => {
-                let own = || records_of(page, board.edition, all.end);
-                let within = if is(Wrong::PagePlaces) { own() } else { all.clone() };
-                vec![right(page, Act::Drop), Pass { within, ..pass(PREFIX1_PAGE + frame, dropped) }]
+                vec![vec![right(page, Act::Drop)], vec![beside(PREFIX1_PAGE + frame, page, dropped)]]
             }
-            (Call::Unmap { page }, Unmap) => {
-                let through = frame_of(page).filter(|_| is(Wrong::ThroughMap));
-                with_prefix1(page, Act::WriteBack(through))
+            (Call::Unmap { page }, Unmap) => with_prefix1(page, vec![pass(page, written(page))], WRITE_BACK),
+            (Call::Protect { page, write }, Protect) => {
+                let act = Act::Permit(write);
+                with_prefix1(page, vec![pass(page, act)], act)
             }
-            (Call::Protect { page, write }, Protect) => with_prefix1(page, Act::Permit(write)),
-            (Call::FlushAll, FlushAll) => vec![Pass { page: None, ..pass(0, Act::WriteBack(None)) }],
+            (Call::Move { page, new_page }, MoveOld) => {
+                let act = if is(Wrong::Renames) { Act::Rename(new_page) } else { written(page) };
+                let (old, new) = (beside(page, new_page, act), right(new_page, WRITE_BACK));
+                match self.wrong {
+                    Some(Wrong::TwoWalks) => vec![vec![old], vec![new]],
+                    Some(Wrong::NewFirst) => vec![vec![new], vec![old]],
+                    _ => with_prefix1(page, vec![new, old], WRITE_BACK),
+                }
+            }
+            (Call::Move { page, new_page }, MoveNew) => {
+                vec![vec![right(page, WRITE_BACK), beside(new_page, page, written(page))]]
+            }
+            (Call::FlushAll, FlushAll) => vec![vec![Pass { page: None, ..pass(0, written(0)) }]],
             _ => return None,
         })
+    }
+
+    /// Makes passes together: by rising record, or in the order that is wrong.
+    fn make(self, passes: &[Pass], board: &mut Board) {
+        let of_set = set_lines(board.edition);
+        let visits = passes.iter().flat_map(|pass| pass.records(board).into_iter().map(move |at| (at, pass)));
+        let mut visits: Vec<(u64, &Pass)> = visits.collect();
+        visits.sort_by_key(|(at, _)| match self.wrong {
+            Some(Wrong::Falling) => (0, u64::MAX - at),
+            Some(Wrong::ByName) => (board.record(*at).name, *at),
+            Some(Wrong::ByLine) => (at % of_set, *at),
+            _ => (0, *at),
+        });
+        for (at, pass) in visits {
+            if pass.takes(board, at) {
+                pass.act(board, at);
+            }
+        }
     }
 }
 
@@ -170,10 +235,17 @@ impl Walk {
 #[derive(Clone, Copy)]
 enum Act {
     Drop,
-    /// Written back, then dropped; to a line of this frame, if there is one.
-    WriteBack(Option<u64>),
+    /// Written back, to a line of this frame if there is one, then dropped, unless it stays.
+    WriteBack {
+        through: Option<u64>,
+        keeps: bool,
+    },
     Permit(bool),
+    /// It gets the name that it would have in this page.
+    Rename(u64),
 }
+
+const WRITE_BACK: Act = Act::WriteBack { through: None, keeps: false };
 
 /// A way over the records at the places of a page, or over all, and what is done with the lines of that page, or with all.
 struct Pass {
@@ -184,15 +256,7 @@ struct Pass {
 }
 
 impl Pass {
-    fn make(&self, board: &mut Board) {
-        for at in self.records(board) {
-            if self.takes(board, at) {
-                self.act(board, at);
-            }
-        }
-    }
-
-    /// The records in the order in which they are visited.
+    /// The records that are visited.
     fn records(&self, board: &Board) -> Vec<u64> {
         let (lines, of_set) = (board.shape.lines, set_lines(board.edition));
         let sets = sets_of(board.edition, lines);
@@ -210,14 +274,11 @@ impl Pass {
                 places.flat_map(|place| of_set * place..of_set * (place + 1)).collect()
             }
             (Some(Wrong::FirstPlaces), _) => (0..lines.min(of_set * LINES_PER_PAGE)).collect(),
-            (Some(Wrong::Falling), _) => (start..end).rev().collect(),
             (Some(Wrong::AsPlaces), _) => (start..start + (end - start) / of_set).collect(),
             (Some(Wrong::PlaceAsRecord), _) => (start / of_set..start / of_set + (end - start)).collect(),
             _ => (start..end).collect(),
         };
         match self.wrong {
-            Some(Wrong::ByName) => records.sort_by_key(|&at| board.record(at).name),
-            Some(Wrong::ByLine) => records.sort_by_key(|&at| at % of_set),
             Some(Wrong::FirstLines) => records.retain(|at| at % of_set == 0),
             Some(Wrong::ThreeLines) => records.retain(|at| at % of_set < 3),
             _ => {}
@@ -245,14 +306,19 @@ impl Pass {
         let record = board.record(at);
         let left = match self.act {
             Act::Drop => NOTHING,
-            Act::WriteBack(through) => {
+            Act::WriteBack { through, keeps } => {
                 let line = through.map_or(record.line, |frame| line_in(frame, record.name));
                 if record.changed && inside(board, line) {
                     board.memory[line_bytes(line)].copy_from_slice(&board.cache[line_bytes(at)]);
                 }
-                NOTHING
+                if keeps {
+                    Record { changed: false, ..record }
+                } else {
+                    NOTHING
+                }
             }
             Act::Permit(write) => Record { write, ..record },
+            Act::Rename(page) => Record { name: page * LINES_PER_PAGE + record.name % LINES_PER_PAGE, ..record },
         };
         put(board, at, left.encode());
     }
