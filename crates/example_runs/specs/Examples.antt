@@ -134,7 +134,7 @@ pub record Example3 : Type 0 where
   pub written-by-other : everWrites shape start runA 1 2049 ≡ true
   pub others-own : everHolds shape start runA 0 2049 ≡ false
   -- so what demand 3 promises holds of them
-  pub promised : SameForProcess shape start runA runB 0
+  pub promised : SameForProcess shape start (start .store .memory) runA runB 0
   -- process 0 gets 0 for its store and 50 for its load in both
   pub replies-A : repliesTo 0 shape start runA ≡ gets 0 0 ∷ gets 0 50 ∷ []
   pub replies-B : repliesTo 0 shape start runB ≡ gets 0 0 ∷ gets 0 50 ∷ []

@@ -89,14 +89,14 @@ pub record MovesMet : Type 0 where
   pub not-held : everHolds shape start runH 0 2049 ≡ false
   pub handed : handedLines (everHolds shape start runH 0) 0 shape start runH ≡ [] ∷ [] ∷ [] ∷ lineWith 50 ∷ []
   -- so what demand 3 promises holds of them
-  pub promised : SameForProcess shape start runH runI 0
+  pub promised : SameForProcess shape start (start .store .memory) runH runI 0
   pub replies-H : repliesTo 0 shape start runH ≡ gets 0 50 ∷ []
   pub replies-I : repliesTo 0 shape start runI ≡ gets 0 50 ∷ []
 
 -- demand 3 without the premise on moves
 abbrev pub AnyMoves : Type 0
 AnyMoves =
-    (s : Shape) (b : Board) → Fresh b → (ks ls : List Call) (process : ℕ) → SameFor process ks ls → Apart s b ks process → SameForProcess s b ks ls process
+    (s : Shape) (b : Board) → Fresh b → (ks ls : List Call) (process : ℕ) → SameFor process ks ls → Apart s b ks process → SameForProcess s b (b .store .memory) ks ls process
 
 -- it fails: runs H and J meet the other premises, other bytes are handed over, and process 0 gets 50 or 7
 pub record MovesNeeded : Type 0 where
@@ -126,7 +126,7 @@ MovesAlikeNow s b ks ls process = (i : ℕ) → i < pageLines → handedNow proc
 abbrev pub MovesNow : Type 0
 MovesNow =
     (s : Shape) (b : Board) → Fresh b → (ks ls : List Call) (process : ℕ)
-    → SameFor process ks ls → Apart s b ks process → MovesAlikeNow s b ks ls process → SameForProcess s b ks ls process
+    → SameFor process ks ls → Apart s b ks process → MovesAlikeNow s b ks ls process → SameForProcess s b (b .store .memory) ks ls process
 
 -- it fails: in runs K and L process 0 holds no segment when the page is moved. It attaches the page's new segment later, and gets 50 or 7
 pub record LaterNeeded : Type 0 where

@@ -16,8 +16,8 @@ use Rattle.machine.specs.Boards.{Board, fitsBoard, Fresh, refused}
 use Rattle.machine.specs.Looks.{lookNumber, look}
 use Rattle.promises.specs.Plain.{Plain, plainLookNumber, plainLook}
 use Rattle.promises.specs.Runs.{ran, gained, someMoment, Call, user, supervisor, Reply, reply, step, next, after, plainOf}
-use Rattle.promises.specs.Demand3.{holds, atSomeMoment, everHolds, Apart, withoutOthers, SameFor, repliesTo, movesOf, isNothing, noMove, handedBy, handedLines, MovesAlike}
-use Rattle.promises.specs.Brought.{Pinned, Brought, bring, broughtNext, broughtReply, broughtAfter, broughtReplies, plainBroughtNext, plainBroughtReply, plainBroughtAfter, plainBroughtReplies, Brings, own, unfit, EachBrings, bringing, OneShape, BroughtAlike, BroughtDemand2, BroughtDemand2Sound, broughtAtSomeMoment, BroughtApart, broughtWithoutOthers, broughtHandedLines, broughtCalls, BroughtMovesAlike, broughtRepliesTo, plainBroughtRepliesTo, BroughtSameForProcess, TwoRuns, BroughtDemand3}
+use Rattle.promises.specs.Demand3.{holds, atSomeMoment, everHolds, Apart, withoutOthers, SameFor, repliesTo, movesOf, isNothing, noMove, handedBy, handedLines, MovesAlike, SameForProcess}
+use Rattle.promises.specs.Brought.{Pinned, Brought, bring, broughtNext, broughtReply, broughtAfter, broughtReplies, plainBroughtNext, plainBroughtReply, plainBroughtAfter, plainBroughtReplies, Brings, own, unfit, EachBrings, bringing, OneShape, BroughtAlike, BroughtDemand2, BroughtDemand2Sound, broughtAtSomeMoment, BroughtApart, broughtWithoutOthers, broughtHandedLines, broughtCalls, BroughtMovesAlike, broughtRepliesTo, plainBroughtRepliesTo, BroughtSameForProcess, TwoRuns, BroughtDemand3, BroughtDemand3Sound}
 use Rattle.promises.proofs.Shapes.{board-shaped}
 use Rattle.promises.proofs.Runs.{moment-again, ran-both, gained-both}
 use Rattle.promises.proofs.Related.{lengths-same}
@@ -26,7 +26,7 @@ use Rattle.promises.proofs.Soundness.{Stands, sound-of, stands-of, stan
 use Rattle.promises.proofs.Holding.{ever-same}
 use Rattle.promises.proofs.Follows.{Follows, Stepped, follows-now, follows-step, follows-reply, follows-number}
 use Rattle.promises.proofs.Demand2.{stepped, look-plain, look-number-plain, Unfit, unfit-call, unfit-keeps, unfit-stepped, look-unfit, look-number-unfit}
-use Rattle.promises.proofs.Demand3.{handed-none, handed-by-same, quiet, quiet-without, demand3}
+use Rattle.promises.proofs.Demand3.{handed-none, handed-by-same, quiet, quiet-without, demand3, demand3-sound}
 
 -- ---- F, P and L are pinned by the lengths, and so is the edition
 
@@ -394,28 +394,41 @@ brought-plain s b x ks process h = go (fitsBoard s b) refl
     go true t = brought-replies-to (Stands s) s (stepped s) (stands-lengths s) process b (b .store .memory) ks (stands-fresh s b x t) h
     go false t = brought-replies-to (Unfit s) s (unfit-stepped s) (unfit-lengths s) process b (b .store .memory) ks (record { no = t; same-length = refl }) h
 
-brought-same : (s : Shape) (b : Board) → Fresh b → (ks ls : List Brought) (process : ℕ) → TwoRuns s b ks ls process → BroughtApart s b ks process
-    → BroughtMovesAlike b ks ls process → BroughtSameForProcess s b ks ls process
-brought-same s b x ks ls process two apart moved =
-    let r = demand3 .apart s b x (calls s b ks) (calls s b ls) process (calls-same s b ks ls process two) (calls-apart s b ks ls process two apart)
-    (calls-moves s b ks ls process two moved) in
+-- what demand 3 says of the calls that fit, with the plain machine's replies, is what it says of the run
+brought-same : (s : Shape) (b : Board) (m : List ℕ) (ks ls : List Brought) (process : ℕ) (two : TwoRuns s b ks ls process)
+    → ((ks : List Brought) → EachBrings s b ks → broughtRepliesTo process b ks ≡ plainBroughtRepliesTo process (plainOf b m) ks)
+    → SameForProcess s b m (calls s b ks) (calls s b ls) process → BroughtSameForProcess s b m ks ls process
+brought-same s b m ks ls process two plain r =
     let k = brought-after s b ks (two .first-brings) in
     let l = brought-after s b ls (two .second-brings) in
     record {
       same-replies = brought-replies s b ks ls process two (r .same-replies);
-      plain-replies = brought-plain s b x ks process (two .first-brings);
-      plain-replies-second = brought-plain s b x ls process (two .second-brings);
+      plain-replies = plain ks (two .first-brings);
+      plain-replies-second = plain ls (two .second-brings);
       same-map = rw (k, l) (r .same-map);
       same-bytes = λ page frame line e g d. rw (k, l) (r .same-bytes page frame line (sym (brought-ever s b _ ks (two .first-brings)) ∙ e) (rw k at g) d);
     }
 
 pub brought-demand3 : BroughtDemand3
 brought-demand3 = record {
-  apart = brought-same;
+  apart = λ s b x ks ls process two apart moved.
+      brought-same s b (b .store .memory) ks ls process two (λ ks h. brought-plain s b x ks process h)
+      (demand3 .apart s b x (calls s b ks) (calls s b ls) process (calls-same s b ks ls process two) (calls-apart s b ks ls process two apart)
+      (calls-moves s b ks ls process two moved));
   without-moves = brought-without-moves;
   apart-either = brought-either;
   moves-either = brought-moves-either;
   one-copy = λ s b x ks h. let k = brought-after s b ks h in rw k (demand3 .one-copy s b x (calls s b ks));
   every-valid-holds = λ s b x ks h. let k = brought-after s b ks h in rw k (demand3 .every-valid-holds s b x (calls s b ks));
   one-copy-valid = λ s b x ks h. let k = brought-after s b ks h in rw k (demand3 .one-copy-valid s b x (calls s b ks));
+}
+
+pub brought-demand3-sound : BroughtDemand3Sound
+brought-demand3-sound = record {
+  apart = λ s b m x y ks ls process two apart moved.
+      brought-same s b m ks ls process two
+      (λ ks h. brought-replies-to (Stands s) s (stepped s) (stands-lengths s) process b m ks (stands-of s b m x y) h)
+      (demand3-sound .apart s b m x y (calls s b ks) (calls s b ls) process (calls-same s b ks ls process two) (calls-apart s b ks ls process two apart)
+      (calls-moves s b ks ls process two moved));
+  one-copy = λ s b x ks h. let k = brought-after s b ks h in rw k (demand3-sound .one-copy s b x (calls s b ks));
 }

@@ -11,8 +11,9 @@ use Rattle.machine.specs.Looks.{lookNumber, look}
 use Rattle.promises.specs.Plain.{Plain, plainLookNumber, plainLook}
 use Rattle.promises.specs.Runs.{Supervisor, Call, user, supervisor, step, next, after, plainAfter, plainOf}
 use Rattle.promises.specs.Sound.{LinesOnce}
-use Rattle.promises.specs.Demand3.{holds, holdsForWriting, everHolds, Apart, withoutOthers, SameFor, segmentOfPage, Moves, moves, nothing, movesOf, isNothing, noMove, handedBy, handedLines, MovesAlike, SameForProcess, OneCopy, EveryValidHolds, OneCopyValid, Demand3}
-use Rattle.promises.proofs.Soundness.{Stands, fresh-empty, stands-fresh}
+use Rattle.promises.specs.Demand3.{holds, holdsForWriting, everHolds, Apart, withoutOthers, SameFor, segmentOfPage, Moves, moves, nothing, movesOf, isNothing, noMove, handedBy, handedLines, MovesAlike, SameForProcess, OneCopy, EveryValidHolds, OneCopyValid, Demand3, Demand3Sound}
+use Rattle.promises.proofs.Soundness.{Stands, stands-of, fresh-empty, stands-fresh}
+use Rattle.promises.proofs.Shown.{shows-some}
 use Rattle.promises.proofs.Apart.{plainEver, PlainApart, Handed, plain-apart}
 use Rattle.promises.proofs.Holding.{ever-same, apart-either}
 use Rattle.promises.proofs.Runs.{ran-keeps}
@@ -23,10 +24,7 @@ use Rattle.promises.proofs.Demand2.{stepped, look-plain, look-number-pl
 -- from any board that a plain machine follows
 module _ (R : Board → List ℕ → Type 0) (s : Shape) (stepped : (b : Board) (m : List ℕ) (k : Call) → R b m → Stepped R s b m k)
     (shown : (b : Board) (m : List ℕ) (line : ℕ) → R b m → look s b line ≡ plainLook s (plainOf b m) line)
-    (asked : (b : Board) (m : List ℕ) (line : ℕ) → R b m → lookNumber s b line ≡ plainLookNumber s (plainOf b m) line) (b : Board) (x : R b (b .store .memory)) where
-  abbrev m : List ℕ
-  m = b .store .memory
-
+    (asked : (b : Board) (m : List ℕ) (line : ℕ) → R b m → lookNumber s b line ≡ plainLookNumber s (plainOf b m) line) (b : Board) (m : List ℕ) (x : R b m) where
   plain-premise : (ks : List Call) (process : ℕ) → Apart s b ks process → PlainApart s (plainOf b m) ks process
   plain-premise ks process h segment other l n a w =
       h segment other l n
@@ -48,7 +46,7 @@ module _ (R : Board → List ℕ → Type 0) (s : Shape) (stepped : (b : Board) 
       ∙ h i l
       ∙ handed-plain R s stepped shown (everHolds s b ks process) (Held ks process) e i b m ls x
 
-  same-process : (ks ls : List Call) (process : ℕ) → SameFor process ks ls → Apart s b ks process → MovesAlike s b ks ls process → SameForProcess s b ks ls process
+  same-process : (ks ls : List Call) (process : ℕ) → SameFor process ks ls → Apart s b ks process → MovesAlike s b ks ls process → SameForProcess s b m ks ls process
   same-process ks ls process f h v =
       let q = plain-apart s (plainOf b m) ks ls process f (plain-ever-same ks ls process f) (plain-premise ks process h) (plain-moves ks ls process v) in
       let k = follows-after R s stepped b m ks x in
@@ -167,7 +165,15 @@ demand3 = record {
 }
   where
     go : (s : Shape) (b : Board) → Fresh b → (ks ls : List Call) (process : ℕ) → SameFor process ks ls → Apart s b ks process → MovesAlike s b ks ls process
-        → (t : Bool) → fitsBoard s b ≡ t → SameForProcess s b ks ls process
-    go s b x ks ls process f h v true t = same-process (Stands s) s (stepped s) (look-plain s) (look-number-plain s) b (stands-fresh s b x t) ks ls process f h v
+        → (t : Bool) → fitsBoard s b ≡ t → SameForProcess s b (b .store .memory) ks ls process
+    go s b x ks ls process f h v true t = same-process (Stands s) s (stepped s) (look-plain s) (look-number-plain s) b (b .store .memory) (stands-fresh s b x t) ks ls process f h v
     go s b x ks ls process f h v false t =
-        same-process (Unfit s) s (unfit-stepped s) (look-unfit s) (look-number-unfit s) b (record { no = t; same-length = refl }) ks ls process f h v
+        same-process (Unfit s) s (unfit-stepped s) (look-unfit s) (look-number-unfit s) b (b .store .memory) (record { no = t; same-length = refl }) ks ls process f h v
+
+-- a sound board stands for what it shows
+pub demand3-sound : Demand3Sound
+demand3-sound = record {
+  apart = λ s b m x y ks ls process f h v.
+      same-process (Stands s) s (stepped s) (look-plain s) (look-number-plain s) b m (stands-of s b m x y) ks ls process f h v;
+  one-copy = λ s b x ks. follows-after (Stands s) s (stepped s) b _ ks (stands-of s b _ x (shows-some s b (x .shape-holds))) .related .sim .once;
+}

@@ -164,10 +164,10 @@ plainBroughtRepliesTo process p (bring t (user q a e) ∷ ks) =
 plainBroughtRepliesTo process p (bring t (supervisor c) ∷ ks) = plainBroughtRepliesTo process (plainStep t p (supervisor c) .after) ks
 
 -- what the two runs ks and ls from the board b, whose own numbers are s, have in common for our process
-pub record BroughtSameForProcess (s : Shape) (b : Board) (ks ls : List Brought) (process : ℕ) : Type 0 where
+pub record BroughtSameForProcess (s : Shape) (b : Board) (memory : List ℕ) (ks ls : List Brought) (process : ℕ) : Type 0 where
   pub same-replies : broughtRepliesTo process b ks ≡ broughtRepliesTo process b ls
-  pub plain-replies : broughtRepliesTo process b ks ≡ plainBroughtRepliesTo process (plainOf b (b .store .memory)) ks
-  pub plain-replies-second : broughtRepliesTo process b ls ≡ plainBroughtRepliesTo process (plainOf b (b .store .memory)) ls
+  pub plain-replies : broughtRepliesTo process b ks ≡ plainBroughtRepliesTo process (plainOf b memory) ks
+  pub plain-replies-second : broughtRepliesTo process b ls ≡ plainBroughtRepliesTo process (plainOf b memory) ls
   pub same-map : broughtAfter b ks .words ≡ broughtAfter b ls .words
   pub same-bytes : (page frame line : ℕ) → broughtAtSomeMoment (λ slots. holds slots process (segmentOfPage page)) b ks ≡ true
       → mappedTo s (broughtAfter b ks .words) page ≡ At frame → line / pageLines ≡ frame
@@ -181,7 +181,7 @@ pub record TwoRuns (s : Shape) (b : Board) (ks ls : List Brought) (process : ℕ
 
 pub record BroughtDemand3 : Type 0 where
   pub apart : (s : Shape) (b : Board) → Fresh b → (ks ls : List Brought) (process : ℕ)
-      → TwoRuns s b ks ls process → BroughtApart s b ks process → BroughtMovesAlike b ks ls process → BroughtSameForProcess s b ks ls process
+      → TwoRuns s b ks ls process → BroughtApart s b ks process → BroughtMovesAlike b ks ls process → BroughtSameForProcess s b (b .store .memory) ks ls process
   -- without moves the premise on moves asks nothing, of any board at all
   pub without-moves : (s : Shape) (b : Board) (ks ls : List Brought) (process : ℕ)
       → TwoRuns s b ks ls process → noMove (broughtCalls ks) ≡ true → BroughtMovesAlike b ks ls process
@@ -193,3 +193,9 @@ pub record BroughtDemand3 : Type 0 where
   pub one-copy : (s : Shape) (b : Board) → Fresh b → (ks : List Brought) → EachBrings s b ks → LinesOnce s (broughtAfter b ks .store)
   pub every-valid-holds : (s : Shape) (b : Board) → Fresh b → (ks : List Brought) → EachBrings s b ks → ValidHolds s (broughtAfter b ks .store)
   pub one-copy-valid : (s : Shape) (b : Board) → Fresh b → (ks : List Brought) → EachBrings s b ks → ValidOnce (broughtAfter b ks .store)
+
+-- from any sound board
+pub record BroughtDemand3Sound : Type 0 where
+  pub apart : (s : Shape) (b : Board) (memory : List ℕ) → Sound s b → Shows s b memory → (ks ls : List Brought) (process : ℕ)
+      → TwoRuns s b ks ls process → BroughtApart s b ks process → BroughtMovesAlike b ks ls process → BroughtSameForProcess s b memory ks ls process
+  pub one-copy : (s : Shape) (b : Board) → Sound s b → (ks : List Brought) → EachBrings s b ks → LinesOnce s (broughtAfter b ks .store)

@@ -1,4 +1,5 @@
--- Demand 3. What one process gets does not depend on the accesses of the others. With moves (CR 9) that needs one premise more.
+-- Demand 3. What one process gets does not depend on the accesses of the others. With moves (CR 9) that needs one premise more. It holds from any sound
+-- board (CR 13), not only from a fresh one.
 use Prim.Native.Nat.{ℕ, zero, suc, _+_, _*_, _/_, _<_}
 use mathlib.Core.Path.{_≡_}
 use mathlib.Core.Bool.{Bool, true, false, not, _&&_, _||_, cond}
@@ -15,7 +16,7 @@ use Rattle.machine.specs.Calls.{foundFrame}
 use Rattle.machine.specs.Looks.{look}
 use Rattle.promises.specs.Runs.{someMoment, Supervisor, access, attach, detach, map, unmap, protect, move, flushAll, tag, loadAndMap, dropTag, Call, user, supervisor, supervise, Reply, reply, step, next, after, plainReply, plainStep, plainOf}
 use Rattle.promises.specs.Plain.{Plain}
-use Rattle.promises.specs.Sound.{LinesOnce, ValidHolds, ValidOnce}
+use Rattle.promises.specs.Sound.{Sound, Shows, LinesOnce, ValidHolds, ValidOnce}
 
 -- ---- holding a segment, read off the slots
 
@@ -141,13 +142,13 @@ MovesAlike s b ks ls process =
 
 -- ---- what is promised
 
--- what the two runs ks and ls from the board b have in common for our process
-pub record SameForProcess (s : Shape) (b : Board) (ks ls : List Call) (process : ℕ) : Type 0 where
+-- what the two runs ks and ls from the board b have in common for our process; the plain machine starts from its slots, words and tag and this memory
+pub record SameForProcess (s : Shape) (b : Board) (memory : List ℕ) (ks ls : List Call) (process : ℕ) : Type 0 where
   -- our process gets the same answers and values
   pub same-replies : repliesTo process s b ks ≡ repliesTo process s b ls
   -- and in each run they are those that the plain machine gives in that run
-  pub plain-replies : repliesTo process s b ks ≡ plainRepliesTo process s (plainOf b (b .store .memory)) ks
-  pub plain-replies-second : repliesTo process s b ls ≡ plainRepliesTo process s (plainOf b (b .store .memory)) ls
+  pub plain-replies : repliesTo process s b ks ≡ plainRepliesTo process s (plainOf b memory) ks
+  pub plain-replies-second : repliesTo process s b ls ≡ plainRepliesTo process s (plainOf b memory) ls
   -- at the end the page map is the same, and the same bytes, read through the cache, stand in every mapped page of every segment
   -- that the process holds at any moment of the run
   pub same-map : after s b ks .words ≡ after s b ls .words
@@ -187,7 +188,7 @@ noMove (supervisor c ∷ ks) = isNothing (movesOf c) && noMove ks
 
 pub record Demand3 : Type 0 where
   pub apart : (s : Shape) (b : Board) → Fresh b → (ks ls : List Call) (process : ℕ)
-      → SameFor process ks ls → Apart s b ks process → MovesAlike s b ks ls process → SameForProcess s b ks ls process
+      → SameFor process ks ls → Apart s b ks process → MovesAlike s b ks ls process → SameForProcess s b (b .store .memory) ks ls process
   -- without moves, as it was: the further premise asks nothing then, of any board at all
   pub without-moves : (s : Shape) (b : Board) (ks ls : List Call) (process : ℕ) → SameFor process ks ls → noMove ks ≡ true → MovesAlike s b ks ls process
   pub apart-either : ApartEither
@@ -196,3 +197,9 @@ pub record Demand3 : Type 0 where
   pub one-copy : OneCopy
   pub every-valid-holds : EveryValidHolds
   pub one-copy-valid : OneCopyValid
+
+-- from any sound board, with a memory that has the bytes that look shows
+pub record Demand3Sound : Type 0 where
+  pub apart : (s : Shape) (b : Board) (memory : List ℕ) → Sound s b → Shows s b memory → (ks ls : List Call) (process : ℕ)
+      → SameFor process ks ls → Apart s b ks process → MovesAlike s b ks ls process → SameForProcess s b memory ks ls process
+  pub one-copy : (s : Shape) (b : Board) → Sound s b → (ks : List Call) → LinesOnce s (after s b ks .store)

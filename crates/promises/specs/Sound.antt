@@ -8,6 +8,7 @@ use Rattle.address.specs.Layout.{pageLines}
 use Rattle.address.specs.Addresses.{ordinaryPage}
 use Rattle.pages.specs.Pages.{namesPage, homeOf}
 use Rattle.board.specs.declared.Shape.{Shape}
+use Rattle.board.specs.declared.Home.{Home}
 use Rattle.board.specs.declared.Home.the-variants.{Line}
 use Rattle.line_bytes.specs.Bytes.{lineOf}
 use Rattle.lines.specs.Records.{lineAt}
@@ -31,12 +32,15 @@ LinesOnce s x =
     (i j : ℕ) → holdsAt s (x .records) i ≡ true → holdsAt s (x .records) j ≡ true
     → lineAt (x .records) i .physical ≡ lineAt (x .records) j .physical → i ≡ j
 
--- each held line's physical line is the one its name maps to, with that page's permission
--- (a prefix 1 line: its frame is from U up with word 0, and it may be written; any other name maps to nothing)
-abbrev pub LinesMapped : Shape → List ℕ → Store → Type 0
-LinesMapped s words x =
+-- each held line's physical line is the one its name maps to, with that page's permission; what names map to is any map of homes
+abbrev pub LinesAtHome : (ℕ → Home) → Shape → Store → Type 0
+LinesAtHome home s x =
     (i : ℕ) → holdsAt s (x .records) i ≡ true
-    → homeOf s words (lineAt (x .records) i .name) ≡ Line (lineAt (x .records) i .physical) (lineAt (x .records) i .write)
+    → home (lineAt (x .records) i .name) ≡ Line (lineAt (x .records) i .physical) (lineAt (x .records) i .write)
+
+-- by the frame words (a prefix 1 line: its frame is from U up with word 0, and it may be written; any other name maps to nothing)
+abbrev pub LinesMapped : Shape → List ℕ → Store → Type 0
+LinesMapped s words x = LinesAtHome (homeOf s words) s x
 
 -- every unchanged held line equals memory
 abbrev pub CleanLinesEqual : Shape → Store → Type 0

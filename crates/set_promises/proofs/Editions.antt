@@ -21,7 +21,7 @@ use Rattle.promises.specs.Limits.{By1}
 use Rattle.promises.proofs.Places.{demand2-place}
 use Rattle.promises.proofs.Demand1.{demand1}
 use Rattle.promises.proofs.Demand2.{demand2, demand2-sound}
-use Rattle.promises.proofs.Demand3.{demand3}
+use Rattle.promises.proofs.Demand3.{demand3, demand3-sound}
 use Rattle.promises.proofs.Moves.{moves-hand-over}
 use Rattle.promises.proofs.Limits.{limits-stand}
 use Rattle.set_promises.specs.Editions.{Edition, Demands, OneLine, FourLines, Editions}
@@ -39,6 +39,8 @@ demands edition = record {
   one-refill-supervisor = λ f u p l b a g. demand2-place .supervisor-place (edition f u p l) b a g;
   apart = λ f u p l b x ks ls process e h m. demand3 .apart (edition f u p l) b x ks ls process e h m;
   one-copy = λ f u p l b x ks. demand3 .one-copy (edition f u p l) b x ks;
+  apart-sound = λ f u p l b memory x y ks ls process e h m. demand3-sound .apart (edition f u p l) b memory x y ks ls process e h m;
+  one-copy-sound = λ f u p l b x ks. demand3-sound .one-copy (edition f u p l) b x ks;
   hands-over = λ f u p l b x ks page new e. moves-hand-over .hands-over (edition f u p l) b x ks page new e;
 }
 

@@ -52,8 +52,14 @@ pub record Demands (edition : Edition) : Type 0 where
       → OnlyAt (eqb (recordTo (edition f u p l) b g)) (b .store) (supervisorAccess (edition f u p l) b a g .after .store)
   -- demand 3
   pub apart : (f u p l : ℕ) (b : Board) → Fresh b → (ks ls : List Call) (process : ℕ) → SameFor process ks ls → Apart (edition f u p l) b ks process
-      → MovesAlike (edition f u p l) b ks ls process → SameForProcess (edition f u p l) b ks ls process
+      → MovesAlike (edition f u p l) b ks ls process → SameForProcess (edition f u p l) b (b .store .memory) ks ls process
   pub one-copy : (f u p l : ℕ) (b : Board) → Fresh b → (ks : List Call) → LinesOnce (edition f u p l) (after (edition f u p l) b ks .store)
+  -- and from any sound board
+  pub apart-sound : (f u p l : ℕ) (b : Board) (memory : List ℕ) → Sound (edition f u p l) b → Shows (edition f u p l) b memory → (ks ls : List Call) (process : ℕ)
+      → SameFor process ks ls → Apart (edition f u p l) b ks process → MovesAlike (edition f u p l) b ks ls process
+      → SameForProcess (edition f u p l) b memory ks ls process
+  pub one-copy-sound : (f u p l : ℕ) (b : Board) → Sound (edition f u p l) b → (ks : List Call)
+      → LinesOnce (edition f u p l) (after (edition f u p l) b ks .store)
   -- a move hands the page over (CR 9)
   pub hands-over : (f u p l : ℕ) (b : Board) → Fresh b → (ks : List Call) (page new : ℕ)
       → movePage (edition f u p l) (after (edition f u p l) b ks) page new .answer .number ≡ 0
