@@ -15,9 +15,9 @@ replay:
 	@echo 'target/bin/replay LOG'
 
 # The static library, proved: target/lib/liboaledva.a. The toolchain writes an archive for each crate that exports: user access,
-# lists of it and the other calls, for a cache with one place for each line and for one with sets of four; and logs. Their pieces
-# go into one, each as it is. On another processor than x86-64, AR names an ar for x86-64.
-PIECES = oaledva oaledva_user oaledva_list oaledva_sets oaledva_sets_user oaledva_sets_list oaledva_log
+# lists of it and the other calls, for a cache with one place for each line and for one with sets of four; logs; and the checker and the
+# repair of dumped boards. Their pieces go into one, each as it is. On another processor than x86-64, AR names an ar for x86-64.
+PIECES = oaledva oaledva_user oaledva_list oaledva_sets oaledva_sets_user oaledva_sets_list oaledva_log oaledva_dump
 library:
 	set -e; for piece in $(PIECES); do rt staticlib $$piece; done
 	@mkdir -p target/lib
@@ -44,11 +44,12 @@ test:
 hostile:
 	tests/run hostile --calls $(CALLS) --seed $(SEED)
 
-# A million user accesses by the library and by ordinary Rust, compared and timed; then logs of as many, read and replayed: some
-# minutes, on a machine that rests.
+# A million user accesses by the library and by ordinary Rust, compared and timed; then logs of as many, read and replayed; then dumps
+# of growing boards, checked and repaired: some minutes, on a machine that rests.
 bench: library
 	bench/accesses/run
 	bench/logs/run
+	bench/dumps/run
 
 # The gate: everything from nothing.
 gate:

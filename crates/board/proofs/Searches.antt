@@ -51,6 +51,28 @@ module _ (test : ℕ → Bool) where
       go false true t v h later = let q : j ≡ i = eqb-true j i v in rw q t
       go false false t v h later = let q = eqb-false j i v in later h (omega arith) (omega arith)
 
+  -- a number that passes is found, where nothing lower of the range does; and nothing is found, where nothing does
+  pub first-is : (i n j : ℕ) → i ≤ j → j < i + n → ((k : ℕ) → i ≤ k → k < j → test k ≡ false) → test j ≡ true → first test i n ≡ At j
+  unfolding first
+  first-is i zero j low high before h = absurd (omega arith)
+  first-is i (suc n) j low high before h = go (eqb i j) refl (first-is (suc i) n j)
+    where
+      go : (t : Bool) → eqb i j ≡ t
+          → (suc i ≤ j → j < suc i + n → ((k : ℕ) → suc i ≤ k → k < j → test k ≡ false) → test j ≡ true → first test (suc i) n ≡ At j)
+          → cond (test i) (At i) (first test (suc i) n) ≡ At j
+      go true t later = let q : i ≡ j = eqb-true i j t in rw (q, h)
+      go false t later =
+          let q = eqb-false i j t in
+          let z : test i ≡ false = before i (omega arith) (omega arith) in
+          rw z (later (omega arith) (omega arith) (λ k a b. before k (omega arith) b) h)
+
+  pub first-none : (i n : ℕ) → ((k : ℕ) → i ≤ k → k < i + n → test k ≡ false) → first test i n ≡ Nothing
+  unfolding first
+  first-none i zero all = refl
+  first-none i (suc n) all =
+      let z : test i ≡ false = all i (omega arith) (omega arith) in
+      rw z (first-none (suc i) n (λ k a b. all k (omega arith) (omega arith)))
+
 module _ (test other : ℕ → Bool) where
   -- tests that agree find the same
   pub first-same : ((k : ℕ) → other k ≡ test k) → (i n : ℕ) → first other i n ≡ first test i n

@@ -7,7 +7,7 @@ use native.Mathlib.Omega.{arith}
 use lib.ListN.{length}
 use Rattle.address.specs.Layout.{pageBytes, processSlots}
 use Rattle.board.specs.Answers.{answer}
-use Rattle.board.specs.Shapes.{fitsShape, matricesOf, maxFrames, maxProcesses}
+use Rattle.board.specs.Shapes.{fitsShape, matricesOf, maxFrames, maxProcesses, maxLines}
 use Rattle.board.specs.declared.Shape.{Shape}
 use Rattle.board.specs.declared.Answer.{Answer}
 use Rattle.board.specs.declared.Pending.{Pending}
@@ -45,6 +45,9 @@ module _ (s : Shape) (slots w r c m : List ℕ) (u : Uses) (t : Bool)
 
     pub fit-frames : s .frames ≤ maxFrames
     fit-frames = facts .frames-max
+
+    pub fit-lines : s .lines ≤ maxLines
+    fit-lines = facts .lines-max
 
     pub fit-uncached : s .uncached ≤ s .frames
     fit-uncached = facts .uncached-max

@@ -1,0 +1,5 @@
+pub mod Lists
+pub mod Turns
+pub mod Trees
+pub mod Doubles
+pub mod Keys

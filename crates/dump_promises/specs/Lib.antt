@@ -1,0 +1,5 @@
+pub mod Checker
+pub mod Accepted
+pub mod Repairer
+pub mod Calls
+pub mod Examples

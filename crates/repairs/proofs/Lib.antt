@@ -1,0 +1,3 @@
+pub mod Repairs
+pub mod Walk
+pub mod Mended
