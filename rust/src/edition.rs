@@ -1,9 +1,9 @@
 use crate::Shape;
 
 /// Where a line may stand in the cache. A board has one edition ([`Board::edition`](crate::Board::edition)), and every call works
-/// on both, with the same numbers and values; only marks may differ. The buffers don't tell which edition they are of, so it
-/// belongs to the board as `uncached` does: [`Board::flush_all`](crate::Board::flush_all) before the same buffers are lent to a
-/// board of the other.
+/// on both, with the same numbers and values; only marks may differ. ([`Board::check`](crate::Board::check), the repair and
+/// [dumps](crate::dump) are for the first alone.) The buffers don't tell which edition they are of, so it belongs to the board as
+/// `uncached` does: [`Board::flush_all`](crate::Board::flush_all) before the same buffers are lent to a board of the other.
 #[derive(Clone, Copy, Debug, Default, PartialEq, Eq, Hash)]
 pub enum Edition {
     /// A line has one place, record name mod L. A line that comes pushes out the one that it finds there.

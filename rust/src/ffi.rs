@@ -7,7 +7,7 @@
 //!
 //! Every call on a board is there twice: for a cache in which a line has one place, and as `oaledva_sets_...` for one with sets of
 //! four, which takes a sixth buffer, `uses`, whose length counts matrices ([`Uses`]). An edition belongs to the board, as U does:
-//! calls of the other are not refused.
+//! calls of the other are not refused. [`oaledva_check`] and [`oaledva_repair`] are there for the first edition alone.
 //!
 //! The tag of an access is two numbers: `set`, which is not 0 where a tag is pending, and `name`, its line name.
 //!
@@ -111,6 +111,48 @@ impl Entry {
     /// The entry's global address; 0 where the asking was refused, which is a global address too: ask the number first.
     pub fn address(self) -> u64 {
         self.packed & ((1 << Self::NUMBER_AT) - 1)
+    }
+}
+
+/// What checking or repairing a board gives, as one number: number × 2^56 + rule × 2^48 + dropped × 2^24 + place.
+///
+/// Ask the number first. It is the call's own: 0 where the board was checked, or repaired, and 1 where the call was refused
+/// because its scratch does not fit the board; then the rest is 0 and says nothing. So a scratch that is too short (number 1,
+/// rule 0) and a board whose own lengths are wrong (number 0, rule 1) are told apart by the number, and the board is sound only
+/// where number and rule are both 0.
+#[derive(Clone, Copy, Debug, PartialEq, Eq)]
+#[must_use]
+#[repr(transparent)]
+pub struct Report {
+    packed: u64,
+}
+
+impl Report {
+    const NUMBER_AT: u32 = 56;
+    const RULE_AT: u32 = 48;
+    const RULE_MASK: u32 = 0xff;
+    const DROPPED_AT: u32 = 24;
+    const PLACE_MASK: u64 = 0xffffff;
+
+    /// The call's own number: 0 where the board was checked or repaired, 1 where the call was refused.
+    pub fn number(self) -> u32 {
+        (self.packed >> Self::NUMBER_AT) as u32
+    }
+
+    /// The number of a [`Rule`](crate::Rule): the first that the board breaks, or broke before the repair; 0 for none.
+    pub fn rule(self) -> u32 {
+        (self.packed >> Self::RULE_AT) as u32 & Self::RULE_MASK
+    }
+
+    /// The lowest frame (rule 2) or place (rules 3 to 5) that breaks it; else 0, which is a frame and a place too: ask the rule
+    /// first.
+    pub fn place(self) -> usize {
+        (self.packed & Self::PLACE_MASK) as usize
+    }
+
+    /// How many lines the repair dropped; 0 of a check.
+    pub fn dropped(self) -> usize {
+        (self.packed >> Self::DROPPED_AT & Self::PLACE_MASK) as usize
     }
 }
 
@@ -409,4 +451,53 @@ extern "C" {
     /// Writes an entry's bytes to the start of a buffer of at least [`LOG_ENTRY_BYTES`], or nothing.
     pub fn oaledva_log_write(entry: *const u64, entry_length: usize, bytes: *mut u8, bytes_length: usize)
         -> LogWritten;
+    /// Checks a board: which rule is broken first, and where. Nothing of the board is changed. A board whose lengths or limits
+    /// are wrong breaks rule 1, whatever the scratch is; for any other, `keys` has max(F, L) words at least and `links` twice as
+    /// many, or the call is refused by its own number 1. What they hold before doesn't matter, and what they hold after means
+    /// nothing; where the report's number or rule is 1 they are not touched.
+    pub fn oaledva_check(
+        frames: usize,
+        uncached: usize,
+        processes: usize,
+        lines: usize,
+        slots: *const u32,
+        slots_length: usize,
+        words: *const u64,
+        words_length: usize,
+        records: *const u64,
+        records_length: usize,
+        cache: *const u8,
+        cache_length: usize,
+        memory: *const u8,
+        memory_length: usize,
+        keys: *mut u64,
+        keys_length: usize,
+        links: *mut u64,
+        links_length: usize,
+    ) -> Report;
+    /// Repairs a board by dropping lines, and reports what [`oaledva_check`] said of it before and how many lines were dropped.
+    /// Where rule 1 or 2 is broken nothing is changed. Else `dropped[i]` is 1 where the line of place i was dropped, and 0
+    /// everywhere else: it has exactly L bytes, or the call is refused by its own number 1, as for `keys` and `links`.
+    pub fn oaledva_repair(
+        frames: usize,
+        uncached: usize,
+        processes: usize,
+        lines: usize,
+        slots: *const u32,
+        slots_length: usize,
+        words: *const u64,
+        words_length: usize,
+        records: *mut u64,
+        records_length: usize,
+        cache: *const u8,
+        cache_length: usize,
+        memory: *const u8,
+        memory_length: usize,
+        keys: *mut u64,
+        keys_length: usize,
+        links: *mut u64,
+        links_length: usize,
+        dropped: *mut u8,
+        dropped_length: usize,
+    ) -> Report;
 }

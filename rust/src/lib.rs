@@ -3,18 +3,21 @@
 #[cfg(not(all(target_arch = "x86_64", target_os = "linux", target_pointer_width = "64")))]
 compile_error!("the static library is for x86-64 Linux: build with --target x86_64-unknown-linux-gnu");
 
+pub mod dump;
 mod edition;
 pub mod ffi;
 pub mod log;
 mod mark;
 mod numbered;
 mod refusal;
+mod rule;
 
 pub use edition::Edition;
 pub use ffi::{Access, Answer, Uses};
-use ffi::{Kind, Permission, Stands};
+use ffi::{Kind, Permission, Report, Stands};
 pub use mark::Mark;
 pub use refusal::Refusal;
+pub use rule::{Broken, CheckError, Repaired, Rule, Scratch};
 use std::ops::DerefMut;
 
 /// The four numbers of a board.
@@ -72,7 +75,7 @@ impl Shape {
         LINE_BYTES * self.lines
     }
 
-    /// How many bytes of memory. (These five are for numbers within the limits.)
+    /// How many bytes of memory. (These five, and [`Shape::links`], are for numbers within the limits.)
     pub const fn memory(&self) -> usize {
         4096 * self.frames
     }
@@ -80,6 +83,20 @@ impl Shape {
     /// How many matrices, in sets of four: one for each set. In the other edition a board has none.
     pub const fn uses(&self) -> usize {
         self.lines / SET_LINES
+    }
+
+    /// How many keys a check takes as scratch, at least: one for each frame, or for each line where these are more.
+    pub const fn keys(&self) -> usize {
+        if self.frames < self.lines {
+            self.lines
+        } else {
+            self.frames
+        }
+    }
+
+    /// How many links: two for each key. (Scratch of the largest board has 24 MiB.)
+    pub const fn links(&self) -> usize {
+        2 * self.keys()
     }
 }
 
@@ -251,7 +268,7 @@ macro_rules! call {
         // alignment. Those that a call may write are borrowed mutably through the board, so they are apart from all else. The
         // tag's two words, where a call may write them, are locals of the method. The accesses and answers of a list are slices
         // of its caller: the answers are borrowed mutably beside the board, so they too are apart from all else, and each
-        // access is so many words without gaps, whose number fits because the slice's bytes do.
+        // access is so many words without gaps, whose number fits because the slice's bytes do. So is the scratch of a check.
         unsafe {
             ffi::$name(
                 $board.shape.frames,
@@ -440,8 +457,160 @@ where
         call!(self, as_ptr, oaledva_look_number / oaledva_sets_look_number(line)).number
     }
 
-    /// The mark of the last call but look: how it went, if it was an access that was done. [`Mark::NoAccess`] before the first
-    /// call.
+    /// Checks the board, one that the field brought back, say: whether it keeps every [`Rule`]. On no, it gives the first rule that
+    /// is broken, and the lowest frame or place that breaks it. Nothing is changed, and a pending tag is not asked.
+    ///
+    /// A board that calls have made from a fresh one is sound. Of a sound board all is promised that is promised of such a
+    /// board: what a load gives is what was stored, and no process sees what others do but through what they share. A board that
+    /// is not sound may answer with old bytes, or with another page's.
+    ///
+    /// ```
+    /// use oaledva::{Board, Broken, Lent, Refusal, Rule, Shape};
+    ///
+    /// let shape = Shape { frames: 4, uncached: 1, processes: 2, lines: 2 };
+    /// let mut board = Board::new(shape)?;
+    /// board.map(0x200000, 1, true)?;
+    /// board.attach(0, 0, 2048, true)?;
+    /// board.load(0, 1, 3)?;
+    /// assert_eq!(board.check(), Ok(()));
+    ///
+    /// // The same buffers, but for a byte of memory behind the cache's back.
+    /// let (mut slots, mut words) = (board.slots().to_vec(), board.words().to_vec());
+    /// let (mut records, mut cache) = (board.records().to_vec(), board.cache().to_vec());
+    /// let mut memory = board.memory().to_vec();
+    /// memory[4096 + 3] = 50;
+    /// let mut board = Lent::over(shape, &mut slots, &mut words, &mut records, &mut cache, &mut memory, None);
+    /// assert_eq!(board.load(0, 1, 3), Ok(0)); // the cache's, and not memory's
+    /// let broken = board.check().unwrap_err();
+    /// assert_eq!(broken, Broken { rule: Rule::Stale, place: 0 });
+    /// assert_eq!(broken.to_string(), "a held line is not marked as changed, and differs from memory (rule 5), at place 0");
+    ///
+    /// // The repair drops that line: what memory has counts again.
+    /// assert_eq!(board.repair().map(|repaired| repaired.dropped), Ok(vec![0]));
+    /// assert_eq!((board.check(), board.load(0, 1, 3)), (Ok(()), Ok(50)));
+    /// # Ok::<(), Refusal>(())
+    /// ```
+    ///
+    /// [`Rule::Lengths`] says that these buffers are no board of the edition that is checked, in which a line has one place
+    /// ([`Edition::OnePlace`]). So does a board with sets of four: it has matrices, one buffer more than that edition knows, and
+    /// is never looked into.
+    ///
+    /// It takes memory for its scratch, and time for a search of some thirty steps at most for each frame and each line;
+    /// [`Board::check_with`] takes scratch of yours.
+    pub fn check(&self) -> Result<(), Broken> {
+        let (mut keys, mut links) = self.scratch();
+        self.check_with(&mut keys, &mut links).map_err(broken)
+    }
+
+    /// [`Board::check`] for a program that allocates nothing: `keys` has [`Shape::keys`] words or more, `links` has
+    /// [`Shape::links`] or more. What they hold before doesn't matter, and what they hold after means nothing.
+    ///
+    /// There are two ways to get no yes. [`CheckError::Broken`] says that the board breaks a rule, and
+    /// [`CheckError::Scratch`] that the scratch is too short, so that the board was not checked. The board's own lengths are
+    /// asked first: where they are wrong it is [`Rule::Lengths`], however short the scratch is.
+    ///
+    /// ```
+    /// use oaledva::{Board, CheckError, Refusal, Scratch, Shape};
+    ///
+    /// let board = Board::new(Shape { frames: 4, uncached: 1, processes: 2, lines: 2 })?;
+    /// let (mut keys, mut links) = ([0; 4], [0; 8]);
+    /// assert_eq!(board.check_with(&mut keys, &mut links), Ok(()));
+    /// let needed = Scratch { keys: 4, links: 8, dropped: 2 };
+    /// assert_eq!(board.check_with(&mut keys[..3], &mut links), Err(CheckError::Scratch(needed)));
+    /// # Ok::<(), Refusal>(())
+    /// ```
+    pub fn check_with(&self, keys: &mut [u64], links: &mut [u64]) -> Result<(), CheckError> {
+        self.asked()?;
+        let report =
+            call!(@ self, as_ptr, oaledva_check, keys.as_mut_ptr(), keys.len(), links.as_mut_ptr(), links.len());
+        self.fits(report)?;
+        report.broken().map_or(Ok(()), |broken| Err(broken.into()))
+    }
+
+    /// Makes a board sound by dropping lines, and nothing else: it writes nothing to memory, and slots, words, cache bytes and the
+    /// tag stay. By rising place it keeps every line that breaks no rule alone ([`Rule::Astray`], [`Rule::Stale`]) or with a lower
+    /// line that is kept ([`Rule::LineTwice`]). Of a line that is dropped memory's bytes count again: what the cache alone had is
+    /// lost to calls, though it still stands in the cache bytes. A sound board is left as it is.
+    ///
+    /// A board that breaks [`Rule::Lengths`] or [`Rule::PageTwice`] is not repaired: that is the `Err`, and nothing is changed.
+    /// A board with sets of four is refused by [`Rule::Lengths`], as [`Board::check`] refuses it.
+    ///
+    /// ```
+    /// use oaledva::{Broken, Lent, Refusal, Repaired, Rule, Shape};
+    ///
+    /// let shape = Shape { frames: 2, uncached: 0, processes: 1, lines: 2 };
+    /// let (mut slots, mut words) = (vec![0; shape.slots()], vec![0; shape.words()]);
+    /// let (mut cache, mut memory) = (vec![0; shape.cache()], vec![0; shape.memory()]);
+    /// words[1] = 0x200000 * 4 + 1; // page 0x200000 has frame 1, read-only
+    /// let (valid, write) = (1, 2);
+    /// let mut records = vec![
+    ///     0x200000 * 256, (256 + 0) * 8 + valid, // place 0 holds its first line
+    ///     0x200000 * 256 + 1, (256 + 1) * 8 + valid + write, // place 1 the second, as one that may be written
+    /// ];
+    /// let mut board = Lent::over(shape, &mut slots, &mut words, &mut records, &mut cache, &mut memory, None);
+    /// let before = Some(Broken { rule: Rule::Astray, place: 1 });
+    /// assert_eq!(board.repair(), Ok(Repaired { before, dropped: vec![1] }));
+    /// assert_eq!(board.repair(), Ok(Repaired { before: None, dropped: vec![] }));
+    /// assert_eq!(records[2..], [0, 0]);
+    ///
+    /// words[0] = words[1]; // the page has two frames: which is the right one?
+    /// let mut board = Lent::over(shape, &mut slots, &mut words, &mut records, &mut cache, &mut memory, None);
+    /// assert_eq!(board.repair(), Err(Broken { rule: Rule::PageTwice, place: 0 }));
+    /// # Ok::<(), Refusal>(())
+    /// ```
+    pub fn repair(&mut self) -> Result<Repaired, Broken> {
+        let (mut keys, mut links) = self.scratch();
+        let lines = if self.shape.keeps_limits() { self.shape.lines } else { 0 };
+        let mut dropped = vec![0; lines];
+        let Repaired { before, .. } = self.repair_with(&mut keys, &mut links, &mut dropped).map_err(broken)?;
+        let places = (0..).zip(dropped).filter(|&(_, dropped)| dropped != 0).map(|(place, _)| place);
+        Ok(Repaired { before, dropped: places.collect() })
+    }
+
+    /// [`Board::repair`] for a program that allocates nothing: `keys` and `links` as of [`Board::check_with`], and `dropped` with
+    /// exactly as many bytes as the board has lines. Where the board is repaired, or was sound, `dropped` has 1 for each line that
+    /// was dropped and 0 for all others, and the number of ones is given. On an error it is not touched, and nothing of the board
+    /// is changed.
+    ///
+    /// ```
+    /// use oaledva::{Board, CheckError, Refusal, Repaired, Shape};
+    ///
+    /// let mut board = Board::new(Shape { frames: 4, uncached: 1, processes: 2, lines: 2 })?;
+    /// let (mut keys, mut links, mut dropped) = ([0; 4], [0; 8], [7; 2]);
+    /// let repaired = board.repair_with(&mut keys, &mut links, &mut dropped);
+    /// assert_eq!(repaired, Ok(Repaired { before: None, dropped: 0 })); // it was sound
+    /// assert_eq!(dropped, [0, 0]);
+    /// assert!(matches!(board.repair_with(&mut keys, &mut links, &mut [7; 3]), Err(CheckError::Scratch(_))));
+    /// # Ok::<(), Refusal>(())
+    /// ```
+    pub fn repair_with(
+        &mut self,
+        keys: &mut [u64],
+        links: &mut [u64],
+        dropped: &mut [u8],
+    ) -> Result<Repaired<usize>, CheckError> {
+        self.mark = Mark::NoAccess;
+        self.asked()?;
+        let report = call!(
+            @ self,
+            as_mut_ptr,
+            oaledva_repair,
+            keys.as_mut_ptr(),
+            keys.len(),
+            links.as_mut_ptr(),
+            links.len(),
+            dropped.as_mut_ptr(),
+            dropped.len()
+        );
+        self.fits(report)?;
+        match report.broken() {
+            Some(broken) if !broken.rule.is_mended() => Err(broken.into()),
+            before => Ok(Repaired { before, dropped: report.dropped() }),
+        }
+    }
+
+    /// The mark of the last call but look and check: how it went, if it was an access that was done. [`Mark::NoAccess`] before the
+    /// first call.
     ///
     /// ```
     /// # use oaledva::{Board, Mark, Refusal, Shape};
@@ -458,7 +627,7 @@ where
         self.mark
     }
 
-    /// Whether the last call but look was an access that found its line held: short for `mark() == Mark::Hit`.
+    /// Whether that call was an access that found its line held: short for `mark() == Mark::Hit`.
     pub fn hit(&self) -> bool {
         self.mark == Mark::Hit
     }
@@ -541,6 +710,28 @@ where
         self.answer(answer)
     }
 
+    /// Keys and links for a check, of a board whose numbers ask for some: where they are out of their limits none are looked at.
+    fn scratch(&self) -> (Vec<u64>, Vec<u64>) {
+        let (keys, links) = if self.shape.keeps_limits() { (self.shape.keys(), self.shape.links()) } else { (0, 0) };
+        (vec![0; keys], vec![0; links])
+    }
+
+    /// The board is of the edition that is checked.
+    fn asked(&self) -> Result<(), Broken> {
+        match self.edition {
+            Edition::OnePlace => Ok(()),
+            Edition::SetsOfFour => Err(Broken { rule: Rule::Lengths, place: 0 }),
+        }
+    }
+
+    /// The call was not refused for its scratch.
+    fn fits(&self, report: Report) -> Result<(), CheckError> {
+        match report.number() {
+            0 => Ok(()),
+            _ => Err(CheckError::Scratch(Scratch::of(&self.shape))),
+        }
+    }
+
     /// The tag as the library takes it: `set` and `name`.
     fn tag_words(&self) -> (u32, u64) {
         self.pending.map_or((0, 0), |name| (1, name))
@@ -586,6 +777,14 @@ pub fn entry_of_page(page: u64) -> Result<u64, Refusal> {
     // Safety: the function takes a number, and nothing is asked of it.
     let entry = unsafe { ffi::oaledva_entry_of_page(page) };
     Refusal::of(entry.number()).map_or(Ok(entry.address()), Err)
+}
+
+/// What is wrong with a board that was checked with scratch of its own.
+fn broken(error: CheckError) -> Broken {
+    match error {
+        CheckError::Broken(broken) => broken,
+        CheckError::Scratch(_) => unreachable!("the scratch fits the board"),
+    }
 }
 
 fn permission(write: bool) -> Permission {

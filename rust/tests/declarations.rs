@@ -2,9 +2,10 @@
 // types and what is only read are compared, in one common form: `name: type`, a slice as a pointer and a length. The header
 // and ffi.rs put some numbers into types of their own, which the source doesn't have: there such a type is its number. The
 // header alone has one of two numbers, the tag, which must be passed as these two are, and one of a matrix, which is an array in
-// the others. The calls of both editions are there, and differ in the matrices alone. So are the numbers with names compared,
-// refusals and marks, and of logs kinds and reasons, with their words; how an answer, an entry and what writing gives are packed;
-// and how many words an access, an entry of a log and a reader's state are.
+// the others. The calls of both editions are there, and differ in the matrices alone; check and repair are there for one. So are the
+// numbers with names compared, refusals and marks, and of logs kinds and reasons and of boards the rules, with their words; how an
+// answer, an entry, what writing gives and a report are packed; and how many words an access, an entry of a log and a reader's
+// state are.
 use std::collections::BTreeMap;
 
 /// A function's parameters and its result.
@@ -248,7 +249,7 @@ fn defined(header: &str) -> Numbers {
     numbers(header, |line| line.strip_prefix("#define OALEDVA_")?.split_once(' '))
 }
 
-/// The header's four enumerations: refusals, marks; of logs kinds and reasons.
+/// The header's five enumerations: refusals, marks; of logs kinds and reasons; of boards the rules.
 fn enumerated(header: &str) -> Vec<Numbers> {
     let bodies = header.split("\nenum {\n").skip(1).map(|rest| rest.split("\n};").next().unwrap());
     bodies.map(|body| numbers(body, |line| line.strip_prefix("OALEDVA_")?.split_once(" = "))).collect()
@@ -267,22 +268,22 @@ fn numbered(declarations: &str) -> Numbers {
 #[test]
 fn the_source_the_header_and_the_crate_declare_the_same() {
     let mut source = Functions::new();
-    for piece in ["", "_user", "_list", "_log", "_sets", "_sets_user", "_sets_list"] {
+    for piece in ["", "_user", "_list", "_log", "_dump", "_sets", "_sets_user", "_sets_list"] {
         source.extend(of_rattle(&text(&format!("crates/oaledva{piece}/src/lib.rt"))));
     }
-    assert_eq!(source.len(), 20 + 15);
+    assert_eq!(source.len(), 22 + 15);
     let (header, crates) = (text("include/oaledva.h"), text("rust/src/ffi.rs"));
     let types = types_of_c(&header);
     assert_eq!(
         types.keys().map(String::as_str).collect::<Vec<_>>().join(" "),
-        "Access Answer Entry Kind LogEntry LogWritten Looked Pending Permission Place Uses"
+        "Access Answer Entry Kind LogEntry LogWritten Looked Pending Permission Place Report Uses"
     );
     assert_eq!(types["Uses"], ["after: [[u8; 4]; 4]"]);
     assert!(crates.contains("\npub type Uses = [[u8; 4]; 4];\n"));
     let mut shared = types.clone();
     shared.retain(|name, _| !["Pending", "Uses"].contains(&name.as_str()));
     assert_eq!(shared, types_of_rust(&crates));
-    for kind in ["Answer", "Entry", "LogWritten", "Looked", "Place"] {
+    for kind in ["Answer", "Entry", "LogWritten", "Looked", "Place", "Report"] {
         assert!(
             crates.contains(&format!("#[must_use]\n#[repr(transparent)]\npub struct {kind} {{")),
             "may be ignored: {kind}"
@@ -293,11 +294,17 @@ fn the_source_the_header_and_the_crate_declare_the_same() {
     assert_eq!(in_numbers(words, &types), source);
 }
 
+/// What is there for boards in which a line has one place, and for no others.
+const ONE_PLACE: [&str; 2] = ["check", "repair"];
+
 /// Of each call on a board the second edition has one that takes the matrices after memory, and nothing else that is other. They
-/// are only read but by accesses, lists of them and load-and-map.
+/// are only read but by accesses, lists of them and load-and-map. Check and repair it has not.
 #[test]
 fn the_editions_differ_in_the_matrices_alone() {
-    let functions = of_c(&text("include/oaledva.h"));
+    let mut functions = of_c(&text("include/oaledva.h"));
+    for name in ONE_PLACE {
+        assert!(functions.remove(&format!("oaledva_{name}")).is_some(), "{name}");
+    }
     let (sets, others): (Vec<_>, Vec<_>) =
         functions.into_iter().partition(|(name, _)| name.starts_with("oaledva_sets_"));
     let on_boards = others.into_iter().filter(|(_, (parameters, _))| parameters[0] == "frames: usize");
@@ -324,8 +331,10 @@ fn over_boards(header: &str, board: &str) -> Vec<String> {
 #[test]
 fn boards_of_both_editions_have_the_same_functions() {
     let header = text("include/oaledva.h");
-    let one_place = over_boards(&header, "oaledva_board");
-    assert_eq!(one_place.len(), 21);
+    let mut one_place = over_boards(&header, "oaledva_board");
+    let all = one_place.len();
+    one_place.retain(|head| ONE_PLACE.iter().all(|name| !head.contains(&format!(" oaledva_board_{name}("))));
+    assert_eq!((one_place.len(), all), (21, 21 + ONE_PLACE.len()));
     let in_sets: Vec<_> = one_place.iter().map(|head| head.replace("oaledva_board", "oaledva_sets_board")).collect();
     assert_eq!(over_boards(&header, "oaledva_sets_board"), in_sets);
 }
@@ -383,7 +392,7 @@ fn numbers_with_names_are_the_same() {
 #[test]
 fn kinds_and_reasons_are_the_same() {
     let header = text("include/oaledva.h");
-    let [_, _, kinds, reasons] = &enumerated(&header)[..] else { panic!("not four enumerations") };
+    let [_, _, kinds, reasons, _] = &enumerated(&header)[..] else { panic!("not five enumerations") };
     let in_logs = |numbers: Numbers| -> Numbers {
         numbers.into_iter().map(|(name, number)| (format!("LOG_{name}"), number)).collect()
     };
@@ -413,12 +422,47 @@ fn kinds_and_reasons_are_the_same() {
     }
 }
 
+/// The rules, with their words. In the source they have the names of what is kept, and here of how it is broken.
 #[test]
-fn answers_and_entries_are_packed_the_same() {
+fn rules_are_the_same() {
+    let header = text("include/oaledva.h");
+    let [.., rules] = &enumerated(&header)[..] else { panic!("no enumeration") };
+    let mut rules = rules.clone();
+    assert_eq!((rules.remove("RULE_NONE"), rules.len()), (Some(0), oaledva::Rule::ALL.len()));
+    let own = numbered(&text("rust/src/rule.rs"));
+    assert_eq!(rules, own.into_iter().map(|(name, number)| (format!("RULE_{name}"), number)).collect());
+    let mut source = constants(&text("crates/dumps/src/lib.rt"));
+    source.extend(constants(&text("crates/dump_lines/src/lib.rt")));
+    for (name, number) in &rules {
+        let rule = oaledva::Rule::of(*number as u32).unwrap();
+        let line = format!("    case OALEDVA_{name}: return \"{}\";\n", rule.words());
+        assert!(header.contains(&line), "{line}");
+        let kept = match name.as_str() {
+            "RULE_LENGTHS" => "LENGTHS",
+            "RULE_PAGE_TWICE" => "PAGE_ONCE",
+            "RULE_LINE_TWICE" => "LINE_ONCE",
+            "RULE_ASTRAY" => "AT_HOME",
+            "RULE_STALE" => "EQUALS_MEMORY",
+            other => panic!("{other}"),
+        };
+        assert_eq!(source.get(kept), Some(number), "{kept}");
+    }
+}
+
+#[test]
+fn answers_entries_and_reports_are_packed_the_same() {
     let (header, crates) = (defined(&text("include/oaledva.h")), text("rust/src/ffi.rs"));
     let of = |kind: &str| constants(between(&crates, &format!("\nimpl {kind} {{\n"), "\n}").unwrap().0);
-    let (answer, entry, written) = (of("Answer"), of("Entry"), of("LogWritten"));
-    assert_eq!((answer.len(), entry.len(), written.len()), (3, 1, 1));
+    let (answer, entry, written, report) = (of("Answer"), of("Entry"), of("LogWritten"), of("Report"));
+    assert_eq!((answer.len(), entry.len(), written.len(), report.len()), (3, 1, 1, 5));
+    for (name, number) in &report {
+        assert_eq!(header.get(&format!("REPORT_{name}")), Some(number), "{name}");
+    }
+    assert_eq!(header.keys().filter(|name| name.starts_with("REPORT_")).count(), report.len());
+    let units = constants(&text("crates/oaledva_dump/src/lib.rt"));
+    for part in ["NUMBER", "RULE", "DROPPED"] {
+        assert_eq!(units[&format!("{part}_UNIT")], 1 << report[&format!("{part}_AT")], "{part}");
+    }
     assert_eq!(header["LOG_REASON_AT"], written["REASON_AT"]);
     for (name, number) in &answer {
         assert_eq!(header.get(name), Some(number), "{name}");
@@ -451,7 +495,15 @@ fn a_changed_declaration_shows() {
     assert_ne!(of_rattle(&sets), of_rattle(&changed(&sets, "uses: &mut [[[u8; 4]; 4]]", "uses: &[[[u8; 4]; 4]]")));
     assert_ne!(of_rattle(&sets), of_rattle(&changed(&sets, "uses: &[[[u8; 4]; 4]]", "uses: &[[[u8; 4]; 8]]")));
     assert_ne!(of_rattle(&sets), of_rattle(&changed(&sets, "uses: &[[[u8; 4]; 4]]", "uses: &[[u8; 4]; 4]")));
+    let dumps = text("crates/oaledva_dump/src/lib.rt");
+    assert_ne!(of_rattle(&dumps), of_rattle(&changed(&dumps, "dropped: &mut [u8]", "dropped: &[u8]")));
+    assert_ne!(of_rattle(&dumps), of_rattle(&changed(&dumps, "records: &mut [u64]", "records: &[u64]")));
+    assert_ne!(of_rattle(&dumps), of_rattle(&changed(&dumps, "    links: &mut [u64],\n", "")));
+    assert_ne!(constants(&dumps), constants(&changed(&dumps, "RULE_UNIT: u64 = 2", "RULE_UNIT: u64 = 1")));
     let of_c_changed = |old, new| assert_ne!(of_c(&header), of_c(&changed(&header, old, new)));
+    of_c_changed("    uint64_t *keys, size_t keys_length,\n", "");
+    of_c_changed("    uint8_t *dropped, size_t dropped_length);", "    uint64_t *dropped, size_t dropped_length);");
+    of_c_changed("oaledva_report oaledva_check(", "oaledva_answer oaledva_check(");
     of_c_changed("const oaledva_uses *uses", "oaledva_uses *uses");
     of_c_changed("oaledva_uses *uses, size_t uses_length,", "");
     of_c_changed("oaledva_uses *uses", "uint8_t *uses");
@@ -515,6 +567,14 @@ fn a_changed_declaration_shows() {
     assert_ne!(defined(&header), defined(&changed(&header, "OALEDVA_MARK_MASK 0xff", "OALEDVA_MARK_MASK 0x7f")));
     assert_ne!(enumerated(&header), enumerated(&changed(&header, "OALEDVA_LOG_MAP = 5,", "OALEDVA_LOG_MAP = 6,")));
     assert_ne!(enumerated(&header), enumerated(&changed(&header, "OALEDVA_LOG_CUT = 4,", "OALEDVA_LOG_SHORT = 4,")));
+    assert_ne!(enumerated(&header), enumerated(&changed(&header, "_RULE_STALE = 5", "_RULE_STALE = 6")));
+    assert_ne!(defined(&header), defined(&changed(&header, "_REPORT_RULE_AT 48", "_REPORT_RULE_AT 40")));
+    let rules = text("rust/src/rule.rs");
+    assert_ne!(numbered(&rules), numbered(&changed(&rules, "LineTwice = 3", "LineTwice = 2")));
+    assert_ne!(constants(&crates), constants(&changed(&crates, "DROPPED_AT: u32 = 24", "DROPPED_AT: u32 = 32")));
+    assert_ne!(of_rust(&crates), of_rust(&changed(&crates, "dropped: *mut u8", "dropped: *const u8")));
+    assert_ne!(of_rust(&crates), of_rust(&changed(&crates, "keys: *mut u64", "keys: *mut u32")));
+    assert_ne!(of_rust(&crates), of_rust(&changed(&crates, "-> Report", "-> Answer")));
     assert_ne!(numbered(&marks), numbered(&changed(&marks, "Refilled = 2", "Refilled = 3")));
     assert_ne!(numbered(&marks), numbered(&changed(&marks, "    WroteBack =", "    Wroteback =")));
     assert_ne!(of_rust(&crates), of_rust(&changed(&crates, "answers: *mut Answer", "answers: *mut u32")));
