@@ -6,15 +6,17 @@
  * Most programs keep their board in an oaledva_board and use the functions oaledva_board_... at the end of this file. The
  * functions before those take each number and each buffer by itself, for programs that hold the buffers elsewhere; what a
  * call does, and by which numbers it is refused, is said there. One call takes no board: oaledva_entry_of_page. Then come logs
- * of calls, written and read in pieces, which take no board either. Last comes a second edition of the cache, with sets of
- * four: the same calls, on boards where two busy lines of one place need not push each other out.
+ * of calls, written and read in pieces, which take no board either; then the check of a dumped board, and its repair. Last
+ * comes a second edition of the cache, with sets of four: the same calls, on boards where two busy lines of one place need not
+ * push each other out.
  *
  * What is proved of each call, for whatever numbers and buffer lengths the caller brings: on the language's own machine it
  * ends, it takes no step outside the buffers that it is lent, and the answer, the buffers and the tag after it are those that
  * the call's definition in crates/machine/specs gives of the buffers and the tag before it. A shape or a length that does not
  * agree is no fault of the caller's: the call answers number 1 and changes nothing. (oaledva_entry_of_page has no buffers,
  * and its definition is in crates/address/specs. The four functions of logs are proved likewise; their definitions are in the
- * specs of crates/log_numbers, log_entries, log_reader and log_writer.)
+ * specs of crates/log_numbers, log_entries, log_reader and log_writer. So are the check of a dumped board and its repair; their
+ * definitions are in the specs of crates/dumps and crates/repairs, and those of the rules in crates/dump_pages and dump_lines.)
  *
  * What the proof rests on, and no proof checks:
  *   - each pointer points to as many elements as the length after it says, readable, and writable where the prototype has
@@ -33,7 +35,9 @@
  *   - the stack has room (see above), and the compiler, the linker and the processor do as they should.
  *
  * What is promised of a run of calls from a fresh board (docs/PROMISES.md: the answers of a machine without a cache, and one
- * process apart from the others; a list counts as its accesses, one after another) asks two things more:
+ * process apart from the others; a list counts as its accesses, one after another) is promised as well of a run from any board
+ * of the first edition that oaledva_check accepts. There the machine without a cache begins with the board's slots, words and
+ * tag, and with the bytes that look shows. It asks two things more:
  *   - between two calls nobody else changes the buffers or the tag's two words. Reading them is fine;
  *   - U belongs to the board. The buffers' lengths pin F, P and L: a call that brings others is answered by number 1. They
  *     do not pin U, and a call that brings another U than the board's, up to F, is not refused. Example: with U = 0 a page is
@@ -999,6 +1003,137 @@ OALEDVA_MUST_USE static inline oaledva_answer oaledva_board_perform(oaledva_boar
     OALEDVA_PERFORM(oaledva_board, b, call);
 }
 
+/* ==== a dumped board, checked and repaired
+ * A board that comes back from the field, as its four numbers and five buffers stood there, may hold anything. The check says
+ * whether it is sound: whether it keeps the five rules below. Every board that calls make of a fresh one is sound, and from
+ * every sound board what is promised of runs holds (see the top of this file). The repair drops the lines that break a rule.
+ * Both are for the edition above, where a line has one place, and not for boards with sets of four. No rule speaks of the tag, so
+ * neither takes it; nor of what stands in the slots.
+ *
+ * A record holds a line where it is valid, it is record name mod L, and its physical line is in memory (below 256 * F). Any
+ * other record counts as empty: no rule asks it. A word names an ordinary page where it is page * 4 + 1 or page * 4 + 3 and the
+ * page is from 0x200000 to 0xFFBFFFFF.
+ *
+ * The rules, by number, in the order in which they are asked. A report names the first that is broken. */
+enum {
+    OALEDVA_RULE_NONE = 0,       /* none is broken */
+    OALEDVA_RULE_LENGTHS = 1,    /* F, U, P and L keep their limits, and each buffer has the length that goes with them: what
+                                    number 1 asks in every call */
+    OALEDVA_RULE_PAGE_TWICE = 2, /* no two frames from U up have words that name one ordinary page */
+    OALEDVA_RULE_LINE_TWICE = 3, /* no two records hold one physical line */
+    OALEDVA_RULE_ASTRAY = 4,     /* each held line has the physical line that its name maps to, with the right write bit. A name
+                                    of an ordinary page maps to line name mod 256 of the frame from U up whose word names the
+                                    page, with that word's write bit. A name under prefix 1, 2^28 + a physical line, maps to that
+                                    line where its frame is from U up and has word 0, with write bit 1. In every other
+                                    case a name maps to nothing, and no record may hold it */
+    OALEDVA_RULE_STALE = 5       /* each held line that is not marked changed has memory's sixteen bytes */
+};
+
+/* How a rule is broken, in words. */
+OALEDVA_MUST_USE static inline const char *oaledva_rule_words(uint32_t rule) {
+    switch (rule) {
+    case OALEDVA_RULE_LENGTHS: return "the buffers' lengths or the board's four numbers disagree or are out of limits";
+    case OALEDVA_RULE_PAGE_TWICE: return "a page has two frames from U up";
+    case OALEDVA_RULE_LINE_TWICE: return "a physical line is held twice";
+    case OALEDVA_RULE_ASTRAY: return "a held line's physical line or permission is not the one that its name maps to";
+    case OALEDVA_RULE_STALE: return "a held line is not marked as changed, and differs from memory";
+    }
+    return "";
+}
+
+/* What the two give, as one number in a type of its own: number * 2^56 + rule * 2^48 + dropped * 2^24 + place. It is no answer.
+ *   number   of the call itself. 0: the board was checked, or repaired. 1: it was not, because the scratch is too short for it
+ *            (of a repair also: because `dropped` has not L elements); then the rest is 0, and nothing at all has changed
+ *   rule     the first rule that the board breaks; 0 where it breaks none
+ *   place    the lowest frame (rule 2) or record (rules 3 to 5) that breaks it, of a doubled pair the lower; 0 for rule 1, and
+ *            where no rule is broken
+ *   dropped  how many lines the repair dropped; 0 in a check's
+ * So 1 has two meanings. Number 1 is about the call, and says of the board only that it keeps rule 1; rule 1 is about the board. And
+ * rule 0 alone is no yes, because a refused call has it too: ask oaledva_sound. */
+typedef struct OALEDVA_MUST_USE_TYPE oaledva_report {
+    uint64_t packed;
+} oaledva_report;
+
+#define OALEDVA_REPORT_NUMBER_AT 56
+#define OALEDVA_REPORT_RULE_AT 48
+#define OALEDVA_REPORT_RULE_MASK 0xff
+#define OALEDVA_REPORT_DROPPED_AT 24
+#define OALEDVA_REPORT_PLACE_MASK 0xffffff
+
+OALEDVA_MUST_USE static inline uint32_t oaledva_report_number(oaledva_report report) {
+    return (uint32_t)(report.packed >> OALEDVA_REPORT_NUMBER_AT);
+}
+OALEDVA_MUST_USE static inline uint32_t oaledva_report_rule(oaledva_report report) {
+    return (uint32_t)(report.packed >> OALEDVA_REPORT_RULE_AT) & OALEDVA_REPORT_RULE_MASK;
+}
+OALEDVA_MUST_USE static inline size_t oaledva_report_dropped(oaledva_report report) {
+    return (size_t)(report.packed >> OALEDVA_REPORT_DROPPED_AT) & OALEDVA_REPORT_PLACE_MASK; /* as wide as a place */
+}
+OALEDVA_MUST_USE static inline size_t oaledva_report_place(oaledva_report report) {
+    return (size_t)report.packed & OALEDVA_REPORT_PLACE_MASK;
+}
+/* The yes of the check: 1 where the board was checked and breaks no rule, else 0. Of a repair: the board was sound before. */
+OALEDVA_MUST_USE static inline int oaledva_sound(oaledva_report report) {
+    return oaledva_report_number(report) == 0 && oaledva_report_rule(report) == OALEDVA_RULE_NONE;
+}
+
+/* ---- the two functions of the library, each buffer by itself
+ * The scratch that both need, in elements: as many or more. Before the call it may hold anything, and what it holds after the
+ * call means nothing. For the largest board it takes 24 MiB. */
+#define OALEDVA_KEYS(F, L) (OALEDVA_SIZE(F) > OALEDVA_SIZE(L) ? OALEDVA_SIZE(F) : OALEDVA_SIZE(L))
+#define OALEDVA_LINKS(F, L) (2 * OALEDVA_KEYS(F, L))
+
+/* Checks a board, and changes nothing but the scratch. Rule 1 comes first: a board that breaks it is reported so with number 0,
+ * whatever the scratch is, which is not touched. Refused by 1: the board keeps rule 1, and `keys` or `links` is too short.
+ * The cost grows as F and L do, and not as their squares, whatever the dump holds. The check goes through the words and the
+ * records. To find doubles it searches for each page and for each held physical line once, in at most 32 turns for a page and 29
+ * for a line. And it compares the sixteen bytes of each unchanged line once. */
+OALEDVA_MUST_USE oaledva_report oaledva_check(
+    OALEDVA_SHAPE_ARGS,
+    const uint32_t *slots, size_t slots_length,
+    const uint64_t *words, size_t words_length,
+    const uint64_t *records, size_t records_length,
+    const uint8_t *cache, size_t cache_length,
+    const uint8_t *memory, size_t memory_length,
+    uint64_t *keys, size_t keys_length,
+    uint64_t *links, size_t links_length);
+
+/* Repairs a board, and reports what the check says of it before, with how many lines were dropped. By rising record, it keeps
+ * each held line that breaks neither rule 4 nor rule 5 by itself and whose physical line no lower line that is kept has; it
+ * drops the others. A dropped record is not valid and has all fields 0. Records that hold no line stay as they are. `dropped` has
+ * L elements: each is set to 1 where the line of that record was dropped, else to 0. Afterwards the board is sound.
+ * Wrong lengths (rule 1) and a doubled page (rule 2) are reported, and nothing is changed, in `dropped` neither: no line that is
+ * dropped would mend them. Refused by 1, after rule 1, where the scratch is too short or `dropped` has not exactly L elements.
+ * Nothing is ever written to memory or to the cache's bytes. So what a program stored into a line that is dropped, and was not
+ * yet written back, is lost: the line claims a physical line or a permission that the words don't give it, so nothing says that
+ * its bytes belong there, and written back they could stand over those of another page. A line that is marked changed and keeps
+ * the rules stays, with what was stored. Of two records that hold one physical line at most one keeps rule 4: that one stays,
+ * unless it is stale.
+ * The cost grows as that of a check does. */
+OALEDVA_MUST_USE oaledva_report oaledva_repair(
+    OALEDVA_SHAPE_ARGS,
+    const uint32_t *slots, size_t slots_length,
+    const uint64_t *words, size_t words_length,
+    uint64_t *records, size_t records_length,
+    const uint8_t *cache, size_t cache_length,
+    const uint8_t *memory, size_t memory_length,
+    uint64_t *keys, size_t keys_length,
+    uint64_t *links, size_t links_length,
+    uint8_t *dropped, size_t dropped_length);
+
+/* ---- the same on a board; its tag stays as it is. To bring a dump, put its four numbers and its buffers into an oaledva_board,
+ * by oaledva_board_over or field by field; U is the board's own, as in every call. */
+OALEDVA_MUST_USE static inline oaledva_report oaledva_board_check(
+    const oaledva_board *b, uint64_t *keys, size_t keys_length, uint64_t *links, size_t links_length) {
+    return oaledva_check(OALEDVA_LEND(*b), keys, keys_length, links, links_length);
+}
+
+OALEDVA_MUST_USE static inline oaledva_report oaledva_board_repair(
+    oaledva_board *b, uint64_t *keys, size_t keys_length, uint64_t *links, size_t links_length, uint8_t *dropped,
+    size_t dropped_length) {
+    return oaledva_repair(OALEDVA_LEND(*b), keys, keys_length, links, links_length, dropped, dropped_length);
+}
+
 /* ==== sets of four: the second edition of the cache
  * In the edition above a line has one place, record name mod L (its name is its global address / 16), and a line that comes
  * pushes out the one that it finds there. So two busy pages may push each other out at every access, whatever stands in the
@@ -1024,7 +1159,7 @@ OALEDVA_MUST_USE static inline oaledva_answer oaledva_board_perform(oaledva_boar
  * Each call has the name of the one above with `sets` in it, takes the same arguments, with `uses` and its length after memory,
  * does what is said there and is refused by the same numbers. Number 1 is given also where L is below 4, or where uses_length,
  * which counts matrices, is not L / 4. Map, unmap, protect and move visit the four records of each set where there they visit
- * one. oaledva_entry_of_page and the logs are the same for both.
+ * one. oaledva_entry_of_page and the logs are the same for both. Check and repair are for the edition above alone.
  *
  * An edition belongs to the board, as U does. The buffers do not tell which it is, and calls of the other edition are not
  * refused: they look for lines elsewhere, and what was stored can be lost. The two kinds of board are types of their own, so

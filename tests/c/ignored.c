@@ -11,11 +11,13 @@ static oaledva_log_reader reader = OALEDVA_LOG_READER;
 static oaledva_log_entry logged[1];
 static uint64_t logged_words[OALEDVA_LOG_ENTRY_WORDS];
 static uint8_t bytes[OALEDVA_LOG_ENTRY_BYTES];
+static uint64_t keys[OALEDVA_KEYS(4, 2)], links[OALEDVA_LINKS(4, 2)];
+static uint8_t dropped[2];
 
-void ignore_all(
-    void *block, oaledva_answer a, oaledva_place place, oaledva_entry entry, oaledva_log_piece piece, oaledva_log_written w);
-void ignore_all(
-    void *block, oaledva_answer a, oaledva_place place, oaledva_entry entry, oaledva_log_piece piece, oaledva_log_written w) {
+void ignore_all(void *block, oaledva_answer a, oaledva_place place, oaledva_entry entry, oaledva_log_piece piece,
+                oaledva_log_written w, oaledva_report report);
+void ignore_all(void *block, oaledva_answer a, oaledva_place place, oaledva_entry entry, oaledva_log_piece piece,
+                oaledva_log_written w, oaledva_report report) {
     oaledva_number(a);
     oaledva_mark(a);
     oaledva_value(a);
@@ -92,6 +94,16 @@ void ignore_all(
     oaledva_log_reader_end(&reader);
     oaledva_log_reader_place(&reader);
     oaledva_board_perform(&b, logged[0]);
+    oaledva_rule_words(OALEDVA_RULE_STALE);
+    oaledva_report_number(report);
+    oaledva_report_rule(report);
+    oaledva_report_dropped(report);
+    oaledva_report_place(report);
+    oaledva_sound(report);
+    oaledva_check(OALEDVA_LEND(b), keys, OALEDVA_COUNT(keys), links, OALEDVA_COUNT(links));
+    oaledva_repair(OALEDVA_LEND(b), keys, OALEDVA_COUNT(keys), links, OALEDVA_COUNT(links), dropped, OALEDVA_COUNT(dropped));
+    oaledva_board_check(&b, keys, OALEDVA_COUNT(keys), links, OALEDVA_COUNT(links));
+    oaledva_board_repair(&b, keys, OALEDVA_COUNT(keys), links, OALEDVA_COUNT(links), dropped, OALEDVA_COUNT(dropped));
     oaledva_sets_board_bytes(4, 1, 2, 4);
     oaledva_sets_user_access(OALEDVA_SETS_LEND(s), s.common.tag, 0, OALEDVA_LOAD, 4, 0, 0);
     oaledva_sets_user_accesses(OALEDVA_SETS_LEND(s), s.common.tag, words, OALEDVA_COUNT(words), answers, 1);

@@ -49,14 +49,34 @@ static uint64_t listed(uint32_t i, uint32_t store, uint32_t address) {
     return CALL(user_accesses)(LEND, TAG, words, OALEDVA_ACCESS_WORDS * CALLS, answers, CALLS).packed;
 }
 
+#ifndef SETS
+/* The board checked, or repaired, with a line held in every record. The lines are put by hand, so that no call is counted for
+ * them. */
+static uint64_t dumped(uint32_t i, int repair) {
+    static uint64_t keys[OALEDVA_KEYS(64, LINES)], links[OALEDVA_LINKS(64, LINES)];
+    static uint8_t dropped[LINES];
+    for (uint64_t line = 0; line < LINES && i == 0; line++) {
+        b.records[2 * line] = (PAGE + line) * 256 + line;
+        b.records[2 * line + 1] = ((1 + line) * 256 + line) * 8 + 2 + 1;
+    }
+    return (repair ? oaledva_repair(LEND, keys, OALEDVA_COUNT(keys), links, OALEDVA_COUNT(links), dropped, LINES)
+                   : oaledva_check(LEND, keys, OALEDVA_COUNT(keys), links, OALEDVA_COUNT(links)))
+        .packed;
+}
+#endif
+
 /* A call by its name, on the board. */
 #define ON_BOARD(call, ...) CALL(call)(LEND, __VA_ARGS__).packed
 
-/* Call i of a kind. In a set of four a hit may be in any line. */
+/* Call i of a kind. In a set of four a hit may be in any line. Dumps have one place to a line. */
 #ifdef SETS
 #define KINDS_OF_SETS KIND("user load, hit, four lines in turn", user(0, 4, i % SET_LINES * (LINES / SET_LINES) * 16))
+#define KINDS_OF_DUMPS
 #else
 #define KINDS_OF_SETS
+#define KINDS_OF_DUMPS                                                                                             \
+    KIND("check, 62 pages and 16 lines", dumped(i, 0))                                                             \
+    KIND("repair, 62 pages and 16 lines", dumped(i, 1))
 #endif
 #define KINDS                                                                                                      \
     KIND("nothing", 0)                                                                                             \
@@ -92,7 +112,8 @@ static uint64_t listed(uint32_t i, uint32_t store, uint32_t address) {
          ON_BOARD(tag, TAG_OF, PAGE * 256 + PUSHING)                                                               \
              + ON_BOARD(load_and_map, TAG_OF, 256 + PUSHING))                                                      \
     KIND("attach and detach", ON_BOARD(attach, 1, 3, 2048, OALEDVA_READ_ONLY) + ON_BOARD(detach, 1, 3))            \
-    KIND("look", CALL(look)(LEND, 256).at)
+    KIND("look", CALL(look)(LEND, 256).at)                                                                         \
+    KINDS_OF_DUMPS
 
 int main(int words, char **word) {
     if (words < 2) {
