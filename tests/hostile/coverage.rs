@@ -1,8 +1,9 @@
 //! What was reached: each refusal number and each mark of each call by each route, each case, each call at the limits of P and L,
 //! each value at the end of a width beside each number, each sight at a page's places, what moves and lists meet, what is met in
-//! sets of four, and logs; and what must be: in each edition by itself, but for logs.
+//! sets of four, logs, and boards that are checked and repaired; and what must be: in each edition by itself, but for those two.
 
 use crate::cases::{Case, CASES};
+use crate::dump_sights::Dumps;
 use crate::gen;
 use crate::limits::{set_lines, ENTRY_PAGES, LINES_MAX, MARKS, PROCESSES_MAX, VALUES, WIDTHS};
 use crate::list_runs::CAUSES;
@@ -75,8 +76,8 @@ const LISTS: usize = 12;
 const LOOKS: usize = 13;
 const ENTRIES: usize = 15;
 
-/// The row of a deed in `KINDS`; what is done with logs is counted apart, and an audit is no call.
-fn row_of(deed: &Deed) -> Option<usize> {
+/// The row of a deed in `KINDS`; what is done with logs, checks and repairs are counted apart, and an audit is no call.
+pub fn row_of(deed: &Deed) -> Option<usize> {
     Some(match deed {
         Deed::Call(Call::UserAccess { .. }) => 0,
         Deed::Call(Call::SupervisorAccess { .. }) => 1,
@@ -94,7 +95,7 @@ fn row_of(deed: &Deed) -> Option<usize> {
         Deed::Look { .. } => LOOKS,
         Deed::LookNumber { .. } => LOOKS + 1,
         Deed::Entry { .. } => ENTRIES,
-        Deed::Read(_) | Deed::Write(_) | Deed::Audit => return None,
+        Deed::Read(_) | Deed::Write(_) | Deed::Dump(_) | Deed::Audit => return None,
     })
 }
 
@@ -174,6 +175,8 @@ pub enum Planned {
     Lists,
     /// Of `set_runs.rs`.
     Sets,
+    /// Of `dump_runs.rs`, the random ones too.
+    Dumps,
 }
 
 /// Whether this call may give this number.
@@ -310,11 +313,12 @@ pub struct Coverage {
     /// The planned runs that are being made, if any are.
     pub planned: Option<Planned>,
     pub logs: Logs,
+    pub dumps: Dumps,
 }
 
 impl Coverage {
     pub fn new() -> Coverage {
-        Coverage { sorts: vec![NONE; SORTS.len()], boards: 0, planned: None, logs: Logs::new() }
+        Coverage { sorts: vec![NONE; SORTS.len()], boards: 0, planned: None, logs: Logs::new(), dumps: Dumps::new() }
     }
 
     fn of(&mut self, sort: Sort) -> &mut Counts {
@@ -385,7 +389,8 @@ impl Coverage {
                     counts.edges[edge][route as usize][row] += 1;
                 }
             }
-            Some(Planned::Values | Planned::Places | Planned::Moves | Planned::Lists | Planned::Sets) => {}
+            Some(Planned::Values | Planned::Places | Planned::Moves) => {}
+            Some(Planned::Lists | Planned::Sets | Planned::Dumps) => {}
             None => counts.numbers[route as usize][row][number as usize] += 1,
         }
     }
@@ -455,6 +460,7 @@ impl Coverage {
             counts.each_required(sort, &mut see);
         }
         self.logs.each_required(&mut see);
+        self.dumps.each_required(&mut see);
     }
 
     /// What was not reached, and what was though no sequence of calls should.

@@ -51,7 +51,7 @@ impl World {
         self.page(rng) * LINES_PER_PAGE + rng.pick(&self.lines)
     }
 
-    fn pages(&self) -> impl Iterator<Item = u64> + '_ {
+    pub fn pages(&self) -> impl Iterator<Item = u64> + '_ {
         let of = |segment: u64| self.indices.iter().map(move |index| segment * PAGES_PER_SEGMENT + index);
         self.segments.iter().flat_map(move |&segment| of(segment))
     }
@@ -81,7 +81,7 @@ pub fn offsets(rng: &mut Rng) -> Offsets {
 }
 
 /// The name, but for its low bits, such that a record that stands there is at its place.
-fn placed(board: &Board, name: u64, at: u64) -> u64 {
+pub fn placed(board: &Board, name: u64, at: u64) -> u64 {
     name - name % sets_of(board.edition, board.shape.lines) + at / set_lines(board.edition)
 }
 
@@ -123,12 +123,7 @@ pub fn wild_board(rng: &mut Rng, edition: Edition, shape: Shape) -> (Board, Worl
     let world = World::new(rng, edition, &board.shape);
     rng.fill(&mut board.memory);
     rng.fill(&mut board.cache);
-    for slot in 0..board.slots.len() {
-        let played = world.slots.contains(&(slot as u64 % SLOTS));
-        if rng.percent(if played { 80 } else { 2 }) {
-            board.slots[slot] = wild_slot(rng, &world);
-        }
-    }
+    attach_all(rng, &world, &mut board);
     for frame in 0..board.words.len() {
         board.words[frame] = wild_word(rng, &world);
     }
@@ -144,6 +139,16 @@ pub fn wild_board(rng: &mut Rng, edition: Edition, shape: Shape) -> (Board, Worl
         _ => (true, world.name(rng)),
     };
     (board, world)
+}
+
+/// Fills the slots, most of the world's and few others: with its segments, or any.
+pub fn attach_all(rng: &mut Rng, world: &World, board: &mut Board) {
+    for slot in 0..board.slots.len() {
+        let played = world.slots.contains(&(slot as u64 % SLOTS));
+        if rng.percent(if played { 80 } else { 2 }) {
+            board.slots[slot] = wild_slot(rng, world);
+        }
+    }
 }
 
 /// Puts a record's two words there.
@@ -172,7 +177,7 @@ fn wild_slot(rng: &mut Rng, world: &World) -> u32 {
     (segment * 2 + rng.below(2)) as u32
 }
 
-fn wild_word(rng: &mut Rng, world: &World) -> u64 {
+pub fn wild_word(rng: &mut Rng, world: &World) -> u64 {
     let page = world.page(rng);
     match rng.below(16) {
         0..=3 => 0,
@@ -233,7 +238,7 @@ fn wild_record(rng: &mut Rng, world: &World, board: &Board, at: u64) -> (u64, u6
 
 /// Makes numbers and lengths disagree, or puts a number out of its limits: alone, so that number 1 must come from it, or with
 /// lengths that don't agree either.
-fn spoil(rng: &mut Rng, board: &mut Board) {
+pub fn spoil(rng: &mut Rng, board: &mut Board) {
     let Shape { frames, uncached, lines, .. } = board.shape;
     if board.edition == Edition::Fours && rng.percent(20) {
         return spoil_sets(rng, board);

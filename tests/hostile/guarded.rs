@@ -138,6 +138,10 @@ impl<T: Element> Guarded<T> {
         self.all.len() == self.front + self.length
     }
 
+    pub fn begins_at_fence(&self) -> bool {
+        self.front == 0
+    }
+
     /// Reads what stands right behind the buffer, or right before it: a planted fault.
     pub fn read_outside(&self, behind: bool) {
         let inner = self.inner().as_ptr();

@@ -104,7 +104,7 @@ impl Writing {
 }
 
 /// The stain of a buffer, word by word or byte by byte.
-fn stains(stain: u64, length: usize) -> impl Iterator<Item = u64> {
+pub fn stains(stain: u64, length: usize) -> impl Iterator<Item = u64> {
     (0..length).map(move |index| stain.rotate_left(7 * (index as u32 % 64)))
 }
 

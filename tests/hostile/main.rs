@@ -4,6 +4,12 @@
 mod apart;
 mod cases;
 mod coverage;
+mod dump_faults;
+mod dump_gen;
+mod dump_routes;
+mod dump_runs;
+mod dump_sights;
+mod dumps;
 mod edges;
 mod fence;
 mod gen;
@@ -39,6 +45,7 @@ mod walks;
 
 use apart::End;
 use coverage::Coverage;
+use dumps::Report;
 use gen::World;
 use limits::EDITIONS;
 use model::{Answer, Board, Edition};
@@ -51,7 +58,7 @@ use shrink::Fails;
 use std::process::ExitCode;
 use trace::{Deed, Start, Step, Trace};
 
-const USAGE: &str = "usage: hostile [--calls N] [--logs N] [--seed S] [--plant FAULT]
+const USAGE: &str = "usage: hostile [--calls N] [--logs N] [--boards N] [--seed S] [--plant FAULT]
        hostile --replay FILE
        hostile --self-test
        hostile --largest";
@@ -63,12 +70,17 @@ const TRACE_FILE: &str = "hostile-trace.txt";
 const CALLS_PER_LOG: u64 = 10;
 const LEAST_LOGS: u64 = 400_000;
 
+/// A board is checked and repaired for so many calls, but at least so many are.
+const CALLS_PER_DUMP: u64 = 10;
+const LEAST_DUMPS: u64 = 60_000;
+
 /// A pair of runs in each edition is tried for so many boards.
 const BOARDS_PER_PAIR: u64 = 80;
 
 struct Options {
     calls: u64,
     logs: Option<u64>,
+    boards: Option<u64>,
     seed: u64,
     plant: Option<Plant>,
     replay: Option<String>,
@@ -80,6 +92,7 @@ fn options() -> Result<Options, String> {
     let mut options = Options {
         calls: DEFAULT_CALLS,
         logs: None,
+        boards: None,
         seed: DEFAULT_SEED,
         plant: None,
         replay: None,
@@ -92,6 +105,7 @@ fn options() -> Result<Options, String> {
         match option.as_str() {
             "--calls" => options.calls = trace::number(&value()?)?,
             "--logs" => options.logs = Some(trace::number(&value()?)?),
+            "--boards" => options.boards = Some(trace::number(&value()?)?),
             "--seed" => options.seed = trace::number(&value()?)?,
             "--plant" => options.plant = Some(trace::value_of(&plant::all(), &value()?)?),
             "--replay" => options.replay = Some(value()?),
@@ -244,14 +258,17 @@ fn search_and_report(options: &Options) -> Result<(), String> {
         let planned = log_runs::planned(&mut rng, options.plant, &mut coverage)?;
         let logs = options.logs.unwrap_or(LEAST_LOGS.max(options.calls / CALLS_PER_LOG));
         let trips = log_runs::search(&mut rng, logs, options.plant, &mut coverage)?;
-        Ok((boards, (planned, logs, trips)))
+        let dumps = dump_runs::planned(&mut rng, options.plant, &mut coverage)?;
+        let random = options.boards.unwrap_or(LEAST_DUMPS.max(options.calls / CALLS_PER_DUMP));
+        dump_runs::search(&mut rng, random, options.plant, &mut coverage)?;
+        Ok((boards, (planned, logs, trips), dumps))
     };
-    let (planned_boards, (planned, logs, trips)) = match runs() {
+    let (planned_boards, (planned, logs, trips), dumps) = match runs() {
         Ok(boards) => boards,
         Err(Failure::Run(trace, difference)) => return Err(report(run::first_difference, *trace, difference)?),
         Err(Failure::Apart(traces, text)) => return Err(report_pair(&traces, &text)?),
     };
-    println!("{}\n{}\n", coverage.table(), coverage.logs.table());
+    println!("{}\n{}\n\n{}\n", coverage.table(), coverage.logs.table(), coverage.dumps.table());
     let (audits, audit_looks) = coverage.audits();
     println!("{} entries of pages", coverage.entries());
     println!("{} looks by themselves; {audits} audits of a fresh board with {audit_looks} looks", coverage.looks());
@@ -259,6 +276,7 @@ fn search_and_report(options: &Options) -> Result<(), String> {
         println!("{ones} boards, and {fours} with sets of four, {words}");
     }
     println!("{}", coverage.logs.told(planned, logs, trips));
+    println!("{}", coverage.dumps.told(dumps));
     for (edition, _) in EDITIONS {
         let (counts, sets) = (coverage.pairs(edition), limits::set_lines(edition));
         println!("{} pairs of runs in sets of {sets}, equal for process 0 but for marks:", counts.pairs);
@@ -322,6 +340,9 @@ fn given_text(given: &Given) -> String {
         Given::Look(number) => format!("number {number}"),
         Given::Entry(number, value) => format!("number {number}, value {value:#x}"),
         Given::Log(text) => text.clone(),
+        Given::Dump(Report { number, rule, place, dropped }) => {
+            format!("number {number}, rule {rule}, place {place}, {dropped} lines dropped")
+        }
         Given::Audit => "as the plain machine's memory".into(),
     }
 }

@@ -1,4 +1,4 @@
-//! Demand 3 by samples: two runs from one fresh board, with the same supervisor calls and the same accesses by process 0, the
+//! Demand 3 by samples: two runs from one board, a fresh one or one that the checker accepts (CR 13), with the same supervisor calls and the same accesses by process 0, the
 //! others' accesses changed, added or left out. No segment that process 0 ever holds is ever held for writing by another:
 //! process 0 attaches only the world's segments but the second, others attach these read-only. A page that is moved into one of
 //! these out of any other has the same bytes in both runs at that moment, as look shows them, even if process 0 attaches the
@@ -14,7 +14,9 @@ use crate::lists::{Item, List};
 use crate::rng::Rng;
 use crate::run::{Difference, Given, Run};
 use crate::trace::{Deed, Start, Step, Trace};
-use model::{mapping, page_in_range, page_of_name, segment_in_range, slot_read, Answer, Board, Call, Edition, Shape};
+use model::{
+    dump, mapping, page_in_range, page_of_name, segment_in_range, slot_read, Answer, Board, Call, Edition, Shape,
+};
 
 const STEPS: usize = 150;
 
@@ -56,6 +58,9 @@ impl Half {
             }
             Deed::List(list) => {
                 self.board.list(&list.words(), &mut vec![Answer { number: 0, value: 0, mark: 0 }; list.answers]);
+            }
+            Deed::Dump(lent) if lent.repair => {
+                dump::repair(&mut self.board);
             }
             _ => {}
         }
@@ -231,21 +236,40 @@ fn held_lines(board: &Board, page: u64) -> Vec<(u64, bool)> {
     held.filter(|record| page_of_name(record.name) == page).map(|record| (record.name, record.changed)).collect()
 }
 
-/// One pair, with what is wrong in it, if anything is.
+/// One pair from a fresh board, with what is wrong in it, if anything is.
 pub fn pair(rng: &mut Rng, edition: Edition, coverage: &mut Coverage, wrong: Option<Wrong>) -> Result<(), Failure> {
     let (frames, uncached, processes) = (2 + rng.below(4), rng.below(2), 2 + rng.below(2));
     // Few sets of four, so that lines are pushed out.
     let sets = 1 << rng.below(if edition == Edition::Fours { 2 } else { 4 });
     let shape = Shape { frames, uncached, processes, lines: set_lines(edition) * sets };
     let start = gen::fresh(rng, edition, shape);
-    let mut world = World::new(rng, edition, &shape);
+    let world = World::new(rng, edition, &shape);
+    let met = pair_from(rng, &start, world, &[], coverage, wrong)?;
+    coverage.pairs(edition).add(met);
+    Ok(())
+}
+
+/// One pair from a board whose slots are empty, both runs with these steps first: a fresh board, or one that they repair. Gives what
+/// there was in it.
+pub fn pair_from(
+    rng: &mut Rng,
+    start: &Start,
+    mut world: World,
+    steps: &[Step],
+    coverage: &mut Coverage,
+    wrong: Option<Wrong>,
+) -> Result<PairCounts, Failure> {
     if rng.percent(40) {
         // Another that process 0 may hold.
         world.segments.push(world.segments[0] ^ (1 << 13));
     }
     let mut own = Own::new(&world);
     let holds_from = if rng.percent(40) { STEPS / 2 } else { 0 };
-    let (mut first, mut second) = (Half::new(&start), Half::new(&start));
+    let (mut first, mut second) = (Half::new(start), Half::new(start));
+    for step in steps {
+        first.step(step.clone());
+        second.step(step.clone());
+    }
     for index in 0..STEPS {
         let deed = if index >= 10 && rng.percent(10) {
             Deed::List(gen::fitting_list(rng, &world, &first.board))
@@ -277,7 +301,7 @@ pub fn pair(rng: &mut Rng, edition: Edition, coverage: &mut Coverage, wrong: Opt
     first.step(audit.clone());
     second.step(audit);
     let other_list = second.other_list;
-    let (first, mut second) = (Made::of(&start, first, coverage)?, Made::of(&start, second, coverage)?);
+    let (first, mut second) = (Made::of(start, first, coverage)?, Made::of(start, second, coverage)?);
     if wrong == Some(Wrong::Value) {
         if let Some(answer) = second.answers.last_mut() {
             answer.value ^= 1;
@@ -292,10 +316,9 @@ pub fn pair(rng: &mut Rng, edition: Edition, coverage: &mut Coverage, wrong: Opt
     met.list = u64::from(other_list);
     met.hit = differ(|one, two| (one == HIT) != (two == HIT));
     met.write_back = differ(|one, two| one != two && one != HIT && two != HIT);
-    coverage.pairs(edition).add(met);
     match tells_apart(&first, &second, &own.held) {
         Some(text) => Err(Failure::Apart(Box::new([first.trace, second.trace]), text)),
-        None => Ok(()),
+        None => Ok(met),
     }
 }
 

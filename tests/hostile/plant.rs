@@ -2,6 +2,7 @@
 //! plain machine, of those), so that the self-test can show that the check behind it fails.
 
 use crate::cases::{Facts, Line};
+use crate::dump_faults;
 use crate::guarded::{Element, Guarded, Lists, Real};
 use crate::limits::{end_of_width, frame_bytes, LINES_PER_PAGE, PAGES_END, PAGE_LAST};
 use crate::list_faults::{self, FAULTS};
@@ -57,6 +58,8 @@ pub enum Plant {
     Sets(Option<set_faults::Wrong>),
     /// None: what stands in for the library has no fault.
     Log(Option<log_faults::Wrong>),
+    /// None: what stands in for the library has no fault.
+    Dump(Option<dump_faults::Wrong>),
     Walk(Walk),
     Panic,
     Signal,
@@ -175,17 +178,18 @@ pub enum Moves {
 /// All faults, by name.
 pub fn all() -> Vec<(Plant, String)> {
     let logs = log_faults::FAULTS.iter().map(|&(wrong, name, _)| (Plant::Log(Some(wrong)), name.to_string()));
-    searched().chain(logs).chain(walks().map(|(walk, name)| (Plant::Walk(walk), name))).collect()
+    let dumps = dump_faults::FAULTS.iter().map(|&(wrong, name, _)| (Plant::Dump(Some(wrong)), name.to_string()));
+    searched().chain(logs).chain(dumps).chain(walks().map(|(walk, name)| (Plant::Walk(walk), name))).collect()
 }
 
-/// All that random runs on boards find: all but those of logs and the walks.
+/// All that random runs on boards find: all but those of logs, of checks and repairs, and the walks.
 pub fn searched() -> impl Iterator<Item = (Plant, String)> {
     let lists = FAULTS.into_iter().map(|(wrong, name, _)| (Plant::List(wrong), name));
     let sets = set_faults::FAULTS.iter().map(|&(wrong, name, ..)| (Plant::Sets(Some(wrong)), name));
     PLANTS.into_iter().chain(lists).chain(sets).map(|(plant, name)| (plant, name.to_string()))
 }
 
-/// All but those in lists, in sets of four, in logs and in walks.
+/// All but those in lists, in sets of four, in logs, in checks and repairs, and in walks.
 pub const PLANTS: [(Plant, &str); 80] = [
     (Plant::Number, "number"),
     (Plant::Value, "value"),
@@ -302,6 +306,7 @@ impl Plant {
             Plant::List(wrong) => wrong.found_as(),
             Plant::Sets(wrong) => wrong.map_or(Kind::Panic, |wrong| wrong.found_as()),
             Plant::Log(wrong) => wrong.map_or(Kind::Panic, |wrong| wrong.found_as()),
+            Plant::Dump(wrong) => wrong.map_or(Kind::Panic, |wrong| wrong.found_as()),
             Plant::Panic => Kind::Panic,
             Plant::Signal | Plant::Hang | Plant::ReadsBehind | Plant::ReadsBefore => Kind::Signal,
         }
@@ -311,6 +316,7 @@ impl Plant {
     pub fn is_found_as(self, kind: Kind) -> bool {
         match self {
             Plant::Sets(Some(wrong)) => wrong.is_found_as(kind),
+            Plant::Dump(Some(wrong)) => wrong.is_found_as(kind),
             _ => kind == self.found_as(),
         }
     }

@@ -5,7 +5,7 @@
 use crate::guarded::{Guarded, Lists, Real};
 use crate::limits::{set_lines, ACCESS_WORDS, FRAMES_MAX, HIT, LINES_MAX, LINE_BYTES, MATRIX_BYTES, PROCESSES_MAX};
 use crate::lists::{Item, List};
-use crate::log_routes;
+use crate::{dump_routes, log_routes};
 use model::{Answer, Call, Edition, Shape};
 use oaledva::{ffi, Lent, Mark, Refusal};
 
@@ -76,6 +76,8 @@ macro_rules! raw {
     };
 }
 
+pub(crate) use raw;
+
 /// What a call gave: the answer, and its other forms where the route has them.
 pub struct Told {
     pub answer: Answer,
@@ -113,30 +115,30 @@ pub struct Looked {
 /// The mirror of `oaledva_board` in include/oaledva.h, its tag as the two words of it.
 #[repr(C)]
 #[derive(Clone, Copy, Debug, PartialEq, Eq)]
-struct CCommon {
-    frames: usize,
-    uncached: usize,
-    processes: usize,
-    lines: usize,
-    slots: *mut u32,
-    slots_length: usize,
-    words: *mut u64,
-    words_length: usize,
-    records: *mut u64,
-    records_length: usize,
-    cache: *mut u8,
-    cache_length: usize,
-    memory: *mut u8,
-    memory_length: usize,
-    set: u32,
-    name: u64,
+pub struct CCommon {
+    pub frames: usize,
+    pub uncached: usize,
+    pub processes: usize,
+    pub lines: usize,
+    pub slots: *mut u32,
+    pub slots_length: usize,
+    pub words: *mut u64,
+    pub words_length: usize,
+    pub records: *mut u64,
+    pub records_length: usize,
+    pub cache: *mut u8,
+    pub cache_length: usize,
+    pub memory: *mut u8,
+    pub memory_length: usize,
+    pub set: u32,
+    pub name: u64,
 }
 
 /// The mirror of `oaledva_sets_board`. A board of 01's edition is its common part.
 #[repr(C)]
 #[derive(Clone, Copy, Debug, PartialEq, Eq)]
 pub struct CBoard {
-    common: CCommon,
+    pub common: CCommon,
     uses: *mut ffi::Uses,
     uses_length: usize,
 }
@@ -304,7 +306,7 @@ pub fn header_disagrees() -> Option<String> {
     if theirs != ours {
         return Some(format!("the header's numbers, marks and limits are {theirs:?}, the documents' {ours:?}"));
     }
-    if let Some(problem) = log_routes::header_disagrees() {
+    if let Some(problem) = log_routes::header_disagrees().or_else(dump_routes::header_disagrees) {
         return Some(problem);
     }
     let shape = Shape { frames: 3, uncached: 1, processes: 2, lines: 8 };
@@ -582,7 +584,7 @@ impl Cage {
 }
 
 /// Lends C a board in a cage, and takes its tag back.
-fn caged<T>(real: &mut Real, manner: &Manner, call: impl FnOnce(*mut CBoard, Way) -> T) -> Result<T, String> {
+pub fn caged<T>(real: &mut Real, manner: &Manner, call: impl FnOnce(*mut CBoard, Way) -> T) -> Result<T, String> {
     let before = CBoard::of(real, manner.null);
     let mut cage = Cage { front: BARS, board: before, back: BARS };
     let result = call(&mut cage.board, manner.way(real.edition));
@@ -632,7 +634,7 @@ unsafe fn c_call(b: *mut CBoard, way: Way, call: &Call, manner: &Manner) -> Told
 
 // ----- the safe crate -----
 
-fn lent(real: &mut Real) -> Lent<'_> {
+pub fn lent(real: &mut Real) -> Lent<'_> {
     let (set, name) = real.tag();
     let shape = oaledva::Shape {
         frames: real.shape.frames as usize,

@@ -1,8 +1,13 @@
-//! A run: the library beside the model (and, from a fresh board, the plain machine), compared after every step.
+//! A run: the library beside the model (and, from a fresh board or one that the checker accepts, the plain machine), compared
+//! after every step.
 
 use crate::apart;
 use crate::cases::{self, Facts};
 use crate::coverage::{self, Coverage, Sort};
+use crate::dump_faults::{Faulty, Wrong};
+use crate::dump_routes;
+use crate::dump_sights::{self, Since};
+use crate::dumps::{self, Dump, Expected, Report};
 use crate::guarded::{Element, Lists, Real};
 use crate::limits::{line_bytes, matrix_bytes, LINES_PER_PAGE};
 use crate::lists::{Did, List, Tally};
@@ -15,7 +20,7 @@ use crate::sets::{self, By};
 use crate::sights;
 use crate::trace::{Deed, Start, Step, Trace};
 use crate::values;
-use model::{Answer, Board, Call, Event, Matrix, Plain, PlainAnswer, Record};
+use model::{dump, Answer, Board, Call, Event, Matrix, Plain, PlainAnswer, Record};
 use std::collections::HashMap;
 use std::fmt::Display;
 use std::panic::{catch_unwind, AssertUnwindSafe};
@@ -41,6 +46,10 @@ pub enum Kind {
     Written,
     Trip,
     Refused,
+    Report,
+    Flags,
+    Drops,
+    Unsound,
     Look,
     Entry,
     Plain,
@@ -88,6 +97,8 @@ pub enum Given {
     Entry(u32, u64),
     /// Of a log that was read, or an entry that was written, in words.
     Log(String),
+    /// Of a check or a repair.
+    Dump(Report),
     Audit,
 }
 
@@ -115,6 +126,11 @@ pub struct Run {
     has_moved: bool,
     /// The entries of logs that were written.
     written: Written,
+    /// Whether the checker has to accept the board, and where the plain machine began, if that was not fresh; and whether a repair
+    /// has dropped lines.
+    accepted: bool,
+    since: Option<Since>,
+    repaired: bool,
     plant: Option<Plant>,
 }
 
@@ -131,6 +147,9 @@ impl Run {
             moved: None,
             has_moved: false,
             written: Written::default(),
+            accepted: start.fresh && model.fits(),
+            since: None,
+            repaired: false,
             model,
             plant,
         }
@@ -158,7 +177,7 @@ impl Run {
         if manner.route == Route::Safe && !routes::safe_can_carry(&self.real) {
             manner.route = Route::Raw;
         }
-        match step.deed {
+        let given = match step.deed {
             Deed::Call(call) => self.call(&call, &manner, coverage),
             Deed::List(ref list) => self.list(list, manner, coverage),
             Deed::Look { line } => self.look(line, &manner, coverage),
@@ -174,8 +193,11 @@ impl Run {
                 self.same_buffers(true)?;
                 Ok(Given::Log(text))
             }
+            Deed::Dump(ref dump) => self.dump(dump, &manner, coverage),
             Deed::Audit => self.audit(&manner, coverage),
-        }
+        }?;
+        self.beside_plain(&step.deed, &given, coverage)?;
+        Ok(given)
     }
 
     fn call(&mut self, call: &Call, manner: &Manner, coverage: &mut Coverage) -> Result<Given, Difference> {
@@ -530,18 +552,11 @@ impl Run {
         if !self.model.fits() {
             return Ok(Given::Audit);
         }
-        let records = self.model.all_records();
-        let mut held: Vec<(u64, Record)> =
-            records.filter_map(|at| self.model.held(at).map(|record| (record.line, record))).collect();
+        let mut held = self.held();
         if let Some(plant) = self.plant {
             plant.before_audit(&mut plain, &mut held);
         }
-        held.sort_unstable_by_key(|(line, _)| *line);
-        if let Some(pair) = held.windows(2).find(|pair| pair[0].0 == pair[1].0) {
-            let (line, first, second) = (pair[0].0, pair[0].1.name, pair[1].1.name);
-            let text = format!("physical line {line:#x} is held twice, under the names {first:#x} and {second:#x}");
-            return Err(differs(Kind::TwoCopies, text));
-        }
+        one_copy(held)?;
         let stride = if self.model.shape.lines > 512 { 61 } else { 1 };
         let mut looks = 0;
         for line in (0..LINES_PER_PAGE * self.model.shape.frames).step_by(stride) {
@@ -557,10 +572,95 @@ impl Run {
         Ok(Given::Audit)
     }
 
-    /// The plain machine's memory, of a run from a fresh board.
+    /// The held lines, by physical line.
+    fn held(&self) -> Vec<(u64, Record)> {
+        let records = self.model.all_records();
+        records.filter_map(|at| self.model.held(at).map(|record| (record.line, record))).collect()
+    }
+
+    // ----- checks and repairs -----
+
+    fn dump(&mut self, dump: &Dump, manner: &Manner, coverage: &mut Coverage) -> Result<Given, Difference> {
+        let own = dump.own && manner.route == Route::Safe;
+        let mut expected = dumps::expected(&mut self.model, dump, own);
+        let mut scratch = dump.lend();
+        let (tagged, _) = self.real.tag();
+        let outcome = match self.plant {
+            Some(Plant::Dump(wrong)) if wrong.map_or(true, Wrong::stands_in) => {
+                let key = scratch.keys.inner().first().copied().unwrap_or(0);
+                Ok(Faulty { wrong, board: &self.kept, key }.dump(dump, own, &mut self.real, &mut scratch))
+            }
+            _ => dump_routes::dump(&mut self.real, dump, &mut scratch, manner),
+        };
+        let mut told = outcome.map_err(|text| differs(Kind::Canary, text))?;
+        if let Some(Plant::Dump(Some(wrong))) = self.plant {
+            wrong.after((&mut told, &mut self.real), (&mut expected, &mut self.model), self.accepted);
+        }
+        dumps::compare(dump, &self.model.shape, &expected, &told, &scratch)?;
+        if self.accepted && told.report.rule != 0 {
+            let text = format!("{:?}, of a board that was accepted, or is one that calls have made", told.report);
+            return Err(differs(Kind::Unsound, text));
+        }
+        self.same_tag(tagged)?;
+        if expected.repairs() {
+            self.same_board(&self.model, Kind::Buffer, "the model's")?;
+            dumps::only_drops(&self.kept, &self.real)?;
+        }
+        let met = dump_sights::met(&self.kept, dump, own, manner, &expected, self.repaired);
+        self.same_buffers(!expected.repairs())?;
+        coverage.dumps.count(manner.route, dump, &expected, &met);
+        self.accept(&expected);
+        Ok(Given::Dump(told.report))
+    }
+
+    /// From a board that the checker accepts, as it is or repaired, the plain machine goes on beside it.
+    fn accept(&mut self, expected: &Expected) {
+        self.repaired |= expected.report.dropped > 0;
+        if !expected.accepts() {
+            return;
+        }
+        self.accepted = true;
+        if self.plain.is_none() {
+            let mut plain = dump::plain_of(&self.model);
+            if let Some(Plant::Dump(Some(wrong))) = self.plant {
+                wrong.after_start(&mut plain, &self.model);
+            }
+            self.plain = Some(plain);
+            self.since = Some(if expected.report.rule == 0 { Since::Accepted } else { Since::Repaired });
+        }
+    }
+
+    /// One copy at every step from such a board; and what was done there is counted.
+    fn beside_plain(&self, deed: &Deed, given: &Given, coverage: &mut Coverage) -> Check {
+        let Some(since) = self.since else { return Ok(()) };
+        let mut held = self.held();
+        if self.plant == Some(Plant::Dump(Some(Wrong::Copies))) && matches!(given, Given::Call(..)) {
+            held.extend(held.first().copied());
+        }
+        one_copy(held)?;
+        match *given {
+            Given::Call(Answer { number: 0, .. }, _) | Given::List(Answer { number: 0, .. }, _) | Given::Look(0) => {
+                coverage.dumps.count_since(since, coverage::row_of(deed));
+            }
+            Given::Audit => coverage.dumps.count_since(since, None),
+            _ => {}
+        }
+        Ok(())
+    }
+
+    /// The plain machine's memory, of a run that has one.
     pub fn flat_memory(&self) -> &[u8] {
         self.plain.as_ref().map_or(&[], |plain| &plain.memory)
     }
+}
+
+/// Demand 3 at a moment: no two of these lines, by physical line, are copies of one.
+fn one_copy(mut held: Vec<(u64, Record)>) -> Check {
+    held.sort_unstable_by_key(|(line, _)| *line);
+    let Some(pair) = held.windows(2).find(|pair| pair[0].0 == pair[1].0) else { return Ok(()) };
+    let (line, first, second) = (pair[0].0, pair[0].1.name, pair[1].1.name);
+    let text = format!("physical line {line:#x} is held twice, under the names {first:#x} and {second:#x}");
+    Err(differs(Kind::TwoCopies, text))
 }
 
 /// Does something that may panic on purpose, or again and again, without the panics' own messages: a difference has them.

@@ -18,7 +18,8 @@ use crate::sights::{Size, SWEEPS};
 use crate::trace::{self, Trace};
 use crate::walks::{Walk, WRONGS};
 use crate::{
-    apart, edges, list_runs, log_faults, log_runs, moves, routes, search, set_faults, set_runs, values, Planned,
+    apart, dump_faults, dump_runs, edges, list_runs, log_faults, log_runs, moves, routes, search, set_faults, set_runs,
+    values, Planned,
 };
 use model::{Board, Edition, Shape};
 use std::collections::HashSet;
@@ -31,6 +32,9 @@ const PAIRS: usize = 1000;
 
 /// Damaged logs within which a fault of logs must be found.
 const LOGS: u64 = 5_000;
+
+/// Boards within which a fault of checks and repairs must be found.
+const DUMPS: u64 = 6_000;
 
 /// Steps to which it must shrink; so many more in sets of four as it takes accesses more to fill one.
 const STEPS: usize = 8;
@@ -67,6 +71,7 @@ pub fn all() -> Result<(), String> {
     }
     planted_sets()?;
     planted_logs()?;
+    planted_dumps()?;
     canaries()?;
     println!("each canary, changed, is named");
     let required = unreached()?;
@@ -78,6 +83,7 @@ pub fn all() -> Result<(), String> {
 /// Gives at which step the fault was found, and how many steps were left.
 fn planted(plant: Plant) -> Result<(usize, usize), String> {
     let find = || match plant {
+        Plant::Dump(_) => dump_runs::search(&mut Rng::new(7), DUMPS, Some(plant), &mut Coverage::new()),
         Plant::Log(_) => log_runs::search(&mut Rng::new(7), LOGS, Some(plant), &mut Coverage::new()).map(drop),
         _ => search(&mut Rng::new(7), CALLS, Some(plant), &mut Coverage::new()),
     };
@@ -142,6 +148,38 @@ fn planted_logs() -> Result<(), String> {
     let faults = log_faults::FAULTS.len();
     println!(
         "planted faults in logs: {faults}, each found, shrunk to {most} steps at most, replayed; found in planned ones"
+    );
+    Ok(())
+}
+
+/// Faults of checks and repairs: each must be found in random runs, and in the planned ones; nothing where what stands in for the
+/// library has no fault.
+fn planted_dumps() -> Result<(), String> {
+    let right = Some(Plant::Dump(None));
+    let found = dump_runs::planned(&mut Rng::new(7), right, &mut Coverage::new()).err();
+    let found = found.or_else(|| dump_runs::search(&mut Rng::new(7), DUMPS, right, &mut Coverage::new()).err());
+    if let Some(Failure::Run(_, difference)) = found {
+        return Err(format!("checks and repairs: a fault is found where nothing is wrong: {difference:?}"));
+    }
+    let value = Some(pairs::Wrong::Value);
+    if !matches!(dump_runs::pair(&mut Rng::new(7), &mut Coverage::new(), value), Err(Failure::Apart(..))) {
+        return Err("planted fault in a pair of runs from an accepted board: not found".into());
+    }
+    let mut most = 0;
+    for &(wrong, name, kind) in dump_faults::FAULTS {
+        let plant = Plant::Dump(Some(wrong));
+        let (_, left) = quietly(|| planted(plant)).map_err(|problem| format!("planted fault '{name}': {problem}"))?;
+        most = most.max(left);
+        if kind != Kind::Signal {
+            let runs: Planned =
+                |rng, _, plant, coverage| dump_runs::planned(rng, plant, coverage).map(|boards| boards as usize);
+            quietly(|| planted_in(runs, Edition::Ones, &[plant]))?;
+        }
+    }
+    let faults = dump_faults::FAULTS.len();
+    println!(
+        "planted faults in checks and repairs: {faults}, each found, shrunk to {most} steps at most, replayed; found in planned \
+         ones"
     );
     Ok(())
 }

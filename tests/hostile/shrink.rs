@@ -2,6 +2,7 @@
 //! logs, then simplifies how calls are brought, then zeroes the first board piece by piece, all while it still fails in the same
 //! way.
 
+use crate::dumps::{self, Dump};
 use crate::limits::STATE_WORDS;
 use crate::lists::{Item, List};
 use crate::logs::{Piece, Reading, Writing};
@@ -35,6 +36,7 @@ pub fn shrink(fails: Fails, trace: Trace, difference: Difference) -> (Trace, Dif
         shrinker.drop_steps();
         shrinker.shorten_lists();
         shrinker.shorten_logs();
+        shrinker.simplify_dumps();
         shrinker.simplify_manners();
         shrinker.zero_board();
         shrinker.drop_steps();
@@ -187,6 +189,25 @@ impl Shrinker {
                 edit(writing)
             }
         })
+    }
+
+    /// Simplifies what is lent to checks and repairs: just what is asked for, and zeros.
+    fn simplify_dumps(&mut self) {
+        let needed = dumps::needed(&self.best.start.board.shape).map(|length| length.min(1 << 20));
+        let edits: [&dyn Fn(&mut Dump); 5] = [
+            &|dump| *dump = Dump::of(dump.repair, needed),
+            &|dump| dump.lengths = Dump::of(dump.repair, needed).lengths,
+            &|dump| dump.own = false,
+            &|dump| dump.stain = 0,
+            &|dump| dump.offsets = [0; 3],
+        ];
+        for (index, edit) in (0..self.best.steps.len()).flat_map(|index| edits.map(|edit| (index, edit))) {
+            self.takes_deed(index, |deed| {
+                if let Deed::Dump(dump) = deed {
+                    edit(dump)
+                }
+            });
+        }
     }
 
     fn log_length(&self, index: usize) -> usize {

@@ -270,3 +270,41 @@ void through_log_make(oaledva_log_entry *entry, uint32_t yes) { *entry = made(en
 through_answer through_board_perform(oaledva_sets_board *b, through_way way, const oaledva_log_entry *entry) {
     return unpacked(OF_BOARD(perform, *entry));
 }
+
+/* ---- a dumped board, of 01's edition: its rules by their names, and how much scratch it takes */
+enum { DUMP_CONSTANTS = 6 + 2 };
+
+void through_dump_constants(size_t frames, size_t lines, size_t constants[DUMP_CONSTANTS]) {
+    const size_t all[DUMP_CONSTANTS] = {
+        OALEDVA_RULE_NONE, OALEDVA_RULE_LENGTHS, OALEDVA_RULE_PAGE_TWICE, OALEDVA_RULE_LINE_TWICE, OALEDVA_RULE_ASTRAY,
+        OALEDVA_RULE_STALE, OALEDVA_KEYS(frames, lines), OALEDVA_LINKS(frames, lines),
+    };
+    for (int i = 0; i < DUMP_CONSTANTS; i++) constants[i] = all[i];
+}
+
+typedef struct through_report {
+    uint64_t packed;
+    uint32_t number, rule, sound;
+    size_t place, dropped;
+} through_report;
+
+static through_report reported(oaledva_report report) {
+    through_report parts = {report.packed, oaledva_report_number(report), oaledva_report_rule(report),
+                            (uint32_t)oaledva_sound(report), oaledva_report_place(report), oaledva_report_dropped(report)};
+    return parts;
+}
+
+through_report through_check(oaledva_sets_board *b, through_way way, uint64_t *keys, size_t keys_length,
+                             uint64_t *links, size_t links_length) {
+    return reported(way.by_board
+                        ? oaledva_board_check(&b->common, keys, keys_length, links, links_length)
+                        : oaledva_check(OALEDVA_LEND(b->common), keys, keys_length, links, links_length));
+}
+
+through_report through_repair(oaledva_sets_board *b, through_way way, uint64_t *keys, size_t keys_length,
+                              uint64_t *links, size_t links_length, uint8_t *dropped, size_t dropped_length) {
+    return reported(way.by_board ? oaledva_board_repair(&b->common, keys, keys_length, links, links_length, dropped,
+                                                        dropped_length)
+                                 : oaledva_repair(OALEDVA_LEND(b->common), keys, keys_length, links, links_length,
+                                                  dropped, dropped_length));
+}

@@ -1,6 +1,7 @@
 //! A run as data: the board it starts on, then what is done. It is written as lines of text and read back from them.
 
 use crate::coverage::Sort;
+use crate::dumps::Dump;
 use crate::guarded::Offsets;
 use crate::limits::{matrix_bytes, EDITIONS, MATRIX_BYTES};
 use crate::lists::{Item, List};
@@ -43,6 +44,8 @@ pub enum Deed {
     Read(Reading),
     /// Writes an entry of a log: of no board.
     Write(Writing),
+    /// Checks the board, or repairs it.
+    Dump(Dump),
     /// Looks at every physical line and compares with the plain machine's memory; asks for two copies of a line.
     Audit,
 }
@@ -63,7 +66,7 @@ pub struct Trace {
 // ----- deeds in words -----
 
 /// A deed's name and its arguments, flags as 0 and 1; those of a list in `list_text`, of logs in `reading_text` and
-/// `writing_text`.
+/// `writing_text`, of checks and repairs in `dump_text`.
 fn parts(deed: &Deed) -> (&'static str, Vec<(&'static str, u64)>) {
     match *deed {
         Deed::Call(Call::UserAccess { process, store, width, address, value }) => (
@@ -100,6 +103,7 @@ fn parts(deed: &Deed) -> (&'static str, Vec<(&'static str, u64)>) {
         Deed::Entry { page } => ("entry", vec![("page", page)]),
         Deed::Read(_) => (READ, vec![]),
         Deed::Write(_) => (WRITE, vec![]),
+        Deed::Dump(ref dump) => (if dump.repair { REPAIR } else { CHECK }, vec![]),
         Deed::Audit => ("audit", vec![]),
     }
 }
@@ -107,6 +111,8 @@ fn parts(deed: &Deed) -> (&'static str, Vec<(&'static str, u64)>) {
 const LIST: &str = "user-accesses";
 const READ: &str = "read-log";
 const WRITE: &str = "write-entry";
+const CHECK: &str = "check";
+const REPAIR: &str = "repair";
 
 /// Numbers with commas between them.
 fn comma(numbers: &[u64]) -> String {
@@ -204,6 +210,27 @@ fn writing_of(arguments: &Arguments) -> Result<Writing, String> {
     })
 }
 
+/// What is lent: so many keys, links and flags; or the safe crate's own.
+fn dump_text(dump: &Dump) -> String {
+    let Dump { own, lengths: [keys, links, flags], stain, offsets: [first, second, third], .. } = dump;
+    format!(" at={first},{second},{third} stain={stain:#x} own={} lent={keys},{links},{flags}", u32::from(*own))
+}
+
+fn dump_of(repair: bool, arguments: &Arguments) -> Result<Dump, String> {
+    let three = |key| -> Result<[usize; 3], String> {
+        let read: [u64; 3] =
+            arguments.numbers(key)?[..].try_into().map_err(|_| format!("'{key}=' has three numbers"))?;
+        Ok(read.map(|number| number as usize))
+    };
+    Ok(Dump {
+        repair,
+        own: arguments.number("own")? != 0,
+        lengths: three("lent")?,
+        stain: arguments.number("stain")?,
+        offsets: three("at")?,
+    })
+}
+
 fn deed_of(name: &str, arguments: &Arguments) -> Result<Deed, String> {
     let get = |key| arguments.number(key);
     let short = |key| get(key).and_then(|n| u32::try_from(n).map_err(|_| format!("{key} has more than 32 bits")));
@@ -243,6 +270,7 @@ fn deed_of(name: &str, arguments: &Arguments) -> Result<Deed, String> {
         "entry" => Deed::Entry { page: get("page")? },
         READ => Deed::Read(reading_of(arguments)?),
         WRITE => Deed::Write(writing_of(arguments)?),
+        CHECK | REPAIR => Deed::Dump(dump_of(name == REPAIR, arguments)?),
         "audit" => Deed::Audit,
         other => return Err(format!("no call is named '{other}'")),
     })
@@ -260,6 +288,7 @@ pub fn step_text(step: &Step) -> String {
         Deed::List(list) => text + &list_text(list),
         Deed::Read(reading) => text + &reading_text(reading),
         Deed::Write(writing) => text + &writing_text(writing),
+        Deed::Dump(dump) => text + &dump_text(dump),
         _ => text,
     }
 }

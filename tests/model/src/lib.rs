@@ -7,11 +7,13 @@
 //!   for each.
 //! * [`Plain`]  the machine without a cache.
 //! * [`log`]    the log of calls (CR 1); [`samples`] makes the sample logs of `examples/logs`.
+//! * [`dump`]   a dumped board of 01's edition, checked and repaired (CR 13).
 //!
 //! Form of each call: first the questions, by rising number (`ask(n, refused_if)?`), none of
 //! which changes anything; only then the changes. So "the lowest that applies is given" and
 //! "no byte, record or tag changed" can be read off the text.
 
+pub mod dump;
 pub mod log;
 pub mod samples;
 
