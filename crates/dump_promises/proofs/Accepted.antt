@@ -17,6 +17,7 @@ use Rattle.promises.proofs.Shown.{shows-some}
 use Rattle.promises.proofs.Demand2.{demand2-sound}
 use Rattle.promises.proofs.Demand3.{demand3-sound}
 use Rattle.promises.proofs.Brought.{brought-demand2-sound, brought-demand3-sound}
+use Rattle.promises.proofs.Lists.{lists-are-calls}
 use Rattle.dump_promises.specs.Accepted.{shownMemory, Runs, FromAccepted, FromYes, RunsAccepted}
 use Rattle.dump_promises.proofs.Checker.{checker-is-right}
 use Rattle.dump_promises.proofs.Calls.{checks-alike}
@@ -41,6 +42,7 @@ from-sound s b x =
       brought-stays = λ ks h. checker-is-right .accepted s (broughtAfter b ks) (brought-demand2-sound s b m x y ks h .sound);
       brought-apart = λ ks ls process. brought-demand3-sound .apart s b m x y ks ls process;
       brought-one-copy = λ ks h. brought-demand3-sound .one-copy s b x ks h;
+      listed = lists-are-calls .runs-sound s b m x y;
     }
 
 pub from-accepted : FromAccepted

@@ -14,6 +14,7 @@ use Rattle.promises.specs.Sound.{ShapeHolds, Shows, LinesOnce, shownLines}
 use Rattle.promises.specs.Demand2.{Alike}
 use Rattle.promises.specs.Demand3.{SameFor, Apart, MovesAlike, SameForProcess}
 use Rattle.promises.specs.Brought.{Brought, EachBrings, broughtAfter, BroughtAlike, TwoRuns, BroughtApart, BroughtMovesAlike, BroughtSameForProcess}
+use Rattle.promises.specs.Lists.{ListRuns}
 use Rattle.dumps.specs.declared.Report.{Report}
 use Rattle.dumps.specs.Checks.{yes, checked}
 use Rattle.dumps.specs.Contracts.{Check}
@@ -40,6 +41,8 @@ pub record Runs (s : Shape) (b : Board) (memory : List ℕ) : Type 0 where
   pub brought-apart : (ks ls : List Brought) (process : ℕ) → TwoRuns s b ks ls process → BroughtApart s b ks process → BroughtMovesAlike b ks ls process
       → BroughtSameForProcess s b memory ks ls process
   pub brought-one-copy : (ks : List Brought) → EachBrings s b ks → LinesOnce s (broughtAfter b ks .store)
+  -- and of runs in which lists come
+  pub listed : ListRuns s b memory
 
 -- from any board that the checker accepts
 abbrev pub FromAccepted : Type 0

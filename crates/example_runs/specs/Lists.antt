@@ -55,7 +55,7 @@ pub record ListExample : Type 0 where
   -- the first meets the premises of `ListsAreCalls`, field `is-calls`
   pub fits : fitsBoard shape opened ≡ true
   pub five-each : length accesses ≡ accessWords * length (buffer 4)
-  -- the two runs stand for the calls of runs A and B, and meet the premises of fields `runs-plain` and `runs-apart`: process 0 gets 0 for its store
+  -- the two runs stand for the calls of runs A and B, and meet the premises of field `runs-fresh`: process 0 gets 0 for its store
   -- and 50 for its load in both
   pub calls-A : callsOf start turnsA ≡ bringing shape runA
   pub calls-B : callsOf start turnsB ≡ bringing shape runB

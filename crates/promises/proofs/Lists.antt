@@ -15,12 +15,13 @@ use Rattle.machine.specs.Boards.{Board, fitsBoard}
 use Rattle.machine.specs.Looks.{look}
 use Rattle.machine.specs.Refusals.{byTable}
 use Rattle.machine.specs.Lists.{Asked, accessWords, askAt, asksFrom, accessOn, oneByOne, Listed, taken, listRefused, listDone, userAccesses}
-use Rattle.promises.specs.Runs.{ran, gained, user, supervisor, step, after, Reply, reply}
-use Rattle.promises.specs.Brought.{Brought, bring, broughtNext, broughtReply, broughtAfter, broughtReplies, broughtRepliesTo}
-use Rattle.promises.specs.Lists.{asCall, firstCalls, IsCalls, Turn, single, list, turnAfter, turnReplies, turnCalls, afterTurns, repliesOf, callsOf, repliesAmong, ListsAreCalls}
+use Rattle.promises.specs.Runs.{ran, gained, user, supervisor, step, after, Reply, reply, plainOf}
+use Rattle.promises.specs.Sound.{LinesOnce}
+use Rattle.promises.specs.Brought.{Brought, bring, broughtNext, broughtReply, broughtAfter, broughtReplies, plainBroughtReplies, broughtRepliesTo, EachBrings, TwoRuns, BroughtApart, BroughtMovesAlike, BroughtSameForProcess}
+use Rattle.promises.specs.Lists.{asCall, firstCalls, IsCalls, Turn, single, list, turnAfter, turnReplies, turnCalls, afterTurns, repliesOf, callsOf, repliesAmong, ListRuns, ListsAreCalls}
 use Rattle.promises.proofs.Lengths.{fits-same}
 use Rattle.promises.proofs.Runs.{ran-more, gained-more, ran-keeps}
-use Rattle.promises.proofs.Brought.{brought-demand2, brought-demand3}
+use Rattle.promises.proofs.Brought.{brought-demand2, brought-demand2-sound, brought-demand3, brought-demand3-sound}
 
 -- ---- accesses one by one
 
@@ -180,18 +181,32 @@ among process b (bring s (supervisor c) ∷ ks) = among process (step s b (super
 pub got : (process : ℕ) (b : Board) (ts : List Turn) → repliesAmong process (callsOf b ts) (repliesOf b ts) ≡ broughtRepliesTo process b (callsOf b ts)
 got process b ts = ap (repliesAmong process (callsOf b ts)) (turns-replies b ts) ∙ among process b (callsOf b ts)
 
+-- what is promised of brought runs from a board is promised of those in which lists come
+list-runs : (s : Shape) (b : Board) (m : List ℕ)
+    → ((ks : List Brought) → EachBrings s b ks → broughtReplies b ks ≡ plainBroughtReplies (plainOf b m) ks)
+    → ((ks ls : List Brought) (process : ℕ) → TwoRuns s b ks ls process → BroughtApart s b ks process → BroughtMovesAlike b ks ls process
+    → BroughtSameForProcess s b m ks ls process)
+    → ((ks : List Brought) → EachBrings s b ks → LinesOnce s (broughtAfter b ks .store)) → ListRuns s b m
+list-runs s b m plain apart once = record {
+  plain = λ ts h. turns-replies b ts ∙ plain (callsOf b ts) h;
+  apart = λ ts us process h p v. got process b ts ∙ apart (callsOf b ts) (callsOf b us) process h p v .same-replies ∙ sym (got process b us);
+  bytes = λ ts us process h p v page frame line held at in-frame.
+      ap (λ (c : Board). look s c line) (turns-after b ts)
+      ∙ apart (callsOf b ts) (callsOf b us) process h p v .same-bytes page frame line held (rw (turns-after b ts) at at) in-frame
+      ∙ sym (ap (λ (c : Board). look s c line) (turns-after b us));
+  one-copy = λ ts h. rw (turns-after b ts) (once (callsOf b ts) h);
+}
+
 pub lists-are-calls : ListsAreCalls
 lists-are-calls = record {
   is-calls = calls-of-list;
   refused-else = other-refused;
   runs-after = turns-after;
   runs-replies = turns-replies;
-  runs-plain = λ s b f ts h. turns-replies b ts ∙ brought-demand2 s b f (callsOf b ts) h .same-replies;
-  runs-apart = λ s b f ts us process h p v.
-      got process b ts ∙ brought-demand3 .apart s b f (callsOf b ts) (callsOf b us) process h p v .same-replies ∙ sym (got process b us);
-  runs-bytes = λ s b f ts us process h p v page frame line held at in-frame.
-      ap (λ (c : Board). look s c line) (turns-after b ts)
-      ∙ brought-demand3 .apart s b f (callsOf b ts) (callsOf b us) process h p v .same-bytes page frame line held (rw (turns-after b ts) at at) in-frame
-      ∙ sym (ap (λ (c : Board). look s c line) (turns-after b us));
-  runs-one-copy = λ s b f ts h. rw (turns-after b ts) (brought-demand3 .one-copy s b f (callsOf b ts) h);
+  runs-fresh = λ s b f.
+      list-runs s b (b .store .memory) (λ ks h. brought-demand2 s b f ks h .same-replies) (λ ks ls process h p v. brought-demand3 .apart s b f ks ls process h p v)
+      (λ ks h. brought-demand3 .one-copy s b f ks h);
+  runs-sound = λ s b m x y.
+      list-runs s b m (λ ks h. brought-demand2-sound s b m x y ks h .alike .same-replies)
+      (λ ks ls process h p v. brought-demand3-sound .apart s b m x y ks ls process h p v) (λ ks h. brought-demand3-sound .one-copy s b x ks h);
 }

@@ -15,7 +15,7 @@ use Rattle.machine.specs.Boards.{Board, Fresh, fitsBoard}
 use Rattle.machine.specs.Looks.{look}
 use Rattle.machine.specs.Lists.{Asked, accessWords, askAt, asksFrom, taken, listRefused, userAccesses}
 use Rattle.promises.specs.Runs.{ran, Call, user, supervisor, step, after, Reply, reply, plainOf}
-use Rattle.promises.specs.Sound.{LinesOnce}
+use Rattle.promises.specs.Sound.{Sound, Shows, LinesOnce}
 use Rattle.promises.specs.Demand3.{holds, segmentOfPage}
 use Rattle.promises.specs.Brought.{Brought, bring, broughtAfter, broughtReplies, plainBroughtReplies, EachBrings, broughtAtSomeMoment, BroughtApart, BroughtMovesAlike, TwoRuns}
 
@@ -90,6 +90,21 @@ gets process b ts = repliesAmong process (callsOf b ts) (repliesOf b ts)
 
 -- ---- the promise
 
+-- what is promised of runs in which lists come, from the board b; the plain machine starts from its slots, words and tag and this memory
+pub record ListRuns (s : Shape) (b : Board) (memory : List ℕ) : Type 0 where
+  -- demand 2: such a run gives the numbers and values of the plain machine
+  pub plain : (ts : List Turn) → EachBrings s b (callsOf b ts) → repliesOf b ts ≡ plainBroughtReplies (plainOf b memory) (callsOf b ts)
+  -- demand 3: of two such runs our process gets the same in both, and at the end the same bytes stand in its pages
+  pub apart : (ts us : List Turn) (process : ℕ) → TwoRuns s b (callsOf b ts) (callsOf b us) process → BroughtApart s b (callsOf b ts) process
+      → BroughtMovesAlike b (callsOf b ts) (callsOf b us) process → gets process b ts ≡ gets process b us
+  pub bytes : (ts us : List Turn) (process : ℕ) → TwoRuns s b (callsOf b ts) (callsOf b us) process → BroughtApart s b (callsOf b ts) process
+      → BroughtMovesAlike b (callsOf b ts) (callsOf b us) process → (page frame line : ℕ)
+      → broughtAtSomeMoment (λ slots. holds slots process (segmentOfPage page)) b (callsOf b ts) ≡ true
+      → mappedTo s (afterTurns b ts .words) page ≡ At frame → line / pageLines ≡ frame
+      → look s (afterTurns b ts) line ≡ look s (afterTurns b us) line
+  -- and no physical line is held twice
+  pub one-copy : (ts : List Turn) → EachBrings s b (callsOf b ts) → LinesOnce s (afterTurns b ts .store)
+
 pub record ListsAreCalls : Type 0 where
   -- on any board that fits, a list with five words for each answer is its accesses as calls
   pub is-calls : (s : Shape) (b : Board) (accesses : List ℕ) (answers : List Answer) → fitsBoard s b ≡ true
@@ -100,16 +115,6 @@ pub record ListsAreCalls : Type 0 where
   -- a run in which lists come, from any board, is the run of the calls that it stands for: the board after it, and the replies
   pub runs-after : (b : Board) (ts : List Turn) → afterTurns b ts ≡ broughtAfter b (callsOf b ts)
   pub runs-replies : (b : Board) (ts : List Turn) → repliesOf b ts ≡ broughtReplies b (callsOf b ts)
-  -- demand 2: from a fresh board it gives the numbers and values of the plain machine
-  pub runs-plain : (s : Shape) (b : Board) → Fresh b → (ts : List Turn) → EachBrings s b (callsOf b ts)
-      → repliesOf b ts ≡ plainBroughtReplies (plainOf b (b .store .memory)) (callsOf b ts)
-  -- demand 3: of two such runs our process gets the same in both, and at the end the same bytes stand in its pages
-  pub runs-apart : (s : Shape) (b : Board) → Fresh b → (ts us : List Turn) (process : ℕ) → TwoRuns s b (callsOf b ts) (callsOf b us) process
-      → BroughtApart s b (callsOf b ts) process → BroughtMovesAlike b (callsOf b ts) (callsOf b us) process → gets process b ts ≡ gets process b us
-  pub runs-bytes : (s : Shape) (b : Board) → Fresh b → (ts us : List Turn) (process : ℕ) → TwoRuns s b (callsOf b ts) (callsOf b us) process
-      → BroughtApart s b (callsOf b ts) process → BroughtMovesAlike b (callsOf b ts) (callsOf b us) process → (page frame line : ℕ)
-      → broughtAtSomeMoment (λ slots. holds slots process (segmentOfPage page)) b (callsOf b ts) ≡ true
-      → mappedTo s (afterTurns b ts .words) page ≡ At frame → line / pageLines ≡ frame
-      → look s (afterTurns b ts) line ≡ look s (afterTurns b us) line
-  -- and no physical line is held twice
-  pub runs-one-copy : (s : Shape) (b : Board) → Fresh b → (ts : List Turn) → EachBrings s b (callsOf b ts) → LinesOnce s (afterTurns b ts .store)
+  -- demands 2 and 3, from a fresh board and from any sound board
+  pub runs-fresh : (s : Shape) (b : Board) → Fresh b → ListRuns s b (b .store .memory)
+  pub runs-sound : (s : Shape) (b : Board) (memory : List ℕ) → Sound s b → Shows s b memory → ListRuns s b memory
