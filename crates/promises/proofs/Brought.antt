@@ -68,7 +68,7 @@ one-shape s b (k ∷ ks) =
 -- from any board that a plain machine follows
 module _ (R : Board → List ℕ → Type 0) (s : Shape) (stepped : (b : Board) (m : List ℕ) (k : Call) → R b m → Stepped R s b m k)
     (lengths : (b : Board) (m : List ℕ) → R b m → length m ≡ length (b .store .memory)) where
-  brought-stepped : (t : Shape) (b : Board) (m : List ℕ) (k : Call) → R b m → Brings s b t → Stepped R t b m k
+  pub brought-stepped : (t : Shape) (b : Board) (m : List ℕ) (k : Call) → R b m → Brings s b t → Stepped R t b m k
   brought-stepped t b m k x (own e) = rw e (stepped b m k x)
   brought-stepped t b m k x (unfit f) = unfit-keeps t b m (record { no = f; same-length = lengths b m x }) R k x
 
@@ -131,10 +131,10 @@ module _ (R : Board → List ℕ → Type 0) (s : Shape) (stepped : (b : Board) 
               sym (follows-number R t (broughtAfter b ks) (plainBroughtAfter (plainOf b m) ks) k r (one-brought t (broughtAfter b ks) _ k r i)) ∙ n;
         }
 
-stands-lengths : (s : Shape) (b : Board) (m : List ℕ) → Stands s b m → length m ≡ length (b .store .memory)
+pub stands-lengths : (s : Shape) (b : Board) (m : List ℕ) → Stands s b m → length m ≡ length (b .store .memory)
 stands-lengths s b m x = lengths-same s b m (x .sim)
 
-unfit-lengths : (s : Shape) (b : Board) (m : List ℕ) → Unfit s b m → length m ≡ length (b .store .memory)
+pub unfit-lengths : (s : Shape) (b : Board) (m : List ℕ) → Unfit s b m → length m ≡ length (b .store .memory)
 unfit-lengths s b m x = x .same-length
 
 pub brought-demand2 : BroughtDemand2

@@ -20,7 +20,7 @@ use Rattle.promises.proofs.Lengths.{fits-same}
 use Rattle.promises.proofs.Runs.{moment-again, moment-both}
 
 -- what a call makes of the slots; `fits` says whether the board fits
-unfoldable slotsBy : Shape → Bool → List ℕ → Call → List ℕ
+unfoldable pub slotsBy : Shape → Bool → List ℕ → Call → List ℕ
 slotsBy s fits slots (user process a e) = slots
 slotsBy s fits slots (supervisor (access a g)) = slots
 slotsBy s fits slots (supervisor (attach process slot segment write)) =
@@ -46,7 +46,7 @@ module _ (s : Shape) (b : Board) where
   slots-kept : (rows : List Row) (d : Outcome) → d .after .slots ≡ b .slots → byTable (refused b) rows d .after .slots ≡ b .slots
   slots-kept rows d e = table-both (λ (o : Outcome) slots. o .after .slots ≡ b .slots) (refused b) (λ n. b .slots) (λ n. refl) rows d (b .slots) (λ p. e)
 
-  slots-step : (k : Call) → step s b k .after .slots ≡ slotsBy s (fitsBoard s b) (b .slots) k
+  pub slots-step : (k : Call) → step s b k .after .slots ≡ slotsBy s (fitsBoard s b) (b .slots) k
   unfolding step slotsBy userAccess supervise supervisorAccess board.attach board.detach board.mapPage board.unmap board.protect board.movePage board.flushAll board.tag board.loadAndMap board.dropTag
   slots-step (user process a e) = slots-kept _ _ refl
   slots-step (supervisor (access a g)) = slots-kept _ _ refl

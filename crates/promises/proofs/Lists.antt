@@ -137,10 +137,10 @@ fits-brought : (u : Shape) (b : Board) (k : Brought) → fitsBoard u (broughtNex
 unfolding broughtNext
 fits-brought u b (bring s k) = fits-same u s b k
 
-fits-after : (u : Shape) (b : Board) (ks : List Brought) → fitsBoard u (broughtAfter b ks) ≡ fitsBoard u b
+pub fits-after : (u : Shape) (b : Board) (ks : List Brought) → fitsBoard u (broughtAfter b ks) ≡ fitsBoard u b
 fits-after u b ks = ran-keeps broughtNext (λ c. fitsBoard u c ≡ fitsBoard u b) (λ c k e. fits-brought u c k ∙ e) b ks refl
 
-calls-kept : (b c : Board) (ts : List Turn) → ((u : Shape) → fitsBoard u c ≡ fitsBoard u b) → callsOf c ts ≡ callsOf b ts
+pub calls-kept : (b c : Board) (ts : List Turn) → ((u : Shape) → fitsBoard u c ≡ fitsBoard u b) → callsOf c ts ≡ callsOf b ts
 unfolding callsOf turnCalls
 calls-kept b c [] h = refl
 calls-kept b c (single s k ∷ ts) h = ap (λ (l : List Brought). bring s k ∷ l) (calls-kept b c ts h)

@@ -1,0 +1,9 @@
+pub mod Turns
+pub mod Strangers
+pub mod Reorder
+pub mod Reorderings
+pub mod Slots
+pub mod Beside
+pub mod Starts
+pub mod Lists
+pub mod Order

@@ -1,0 +1,3 @@
+pub mod Strangers
+pub mod Reorderings
+pub mod Order
