@@ -8,3 +8,4 @@ pub mod Values
 pub mod Marks
 pub mod Lists
 pub mod Moves
+pub mod Order
