@@ -45,6 +45,12 @@
  *     a cache sees no frame from 1 up with that page, and says 8. Bring the same U in every call, as a board's functions do.
  * One process apart from the others asks a third: a page that is moved into a segment which the process holds at any moment of
  * the run, even if only later, has the same bytes when it is moved, whatever the others did; or it comes from such a segment.
+ *
+ * Whose access comes first: two processes are strangers while neither holds for writing a segment that the other holds, by the
+ * slots of that moment. In such a run their accesses may change places, single or in lists, as long as no two accesses by
+ * processes that are no strangers do (so none of one process), and no access gets to the other side of a supervisor's call.
+ * Every call then gets the same number and value, and look shows the same at each supervisor's call and at the end. The marks
+ * may differ, and so may the records.
  */
 #ifndef OALEDVA_H
 #define OALEDVA_H

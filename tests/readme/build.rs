@@ -2,7 +2,7 @@
 use std::{env, fs, path::Path};
 
 const READMES: [(&str, &str, usize); 2] =
-    [("readme", "../../README.md", 6), ("rust_readme", "../../rust/README.md", 7)];
+    [("readme", "../../README.md", 7), ("rust_readme", "../../rust/README.md", 7)];
 
 fn main() {
     let mut modules = String::new();
