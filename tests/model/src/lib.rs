@@ -8,6 +8,7 @@
 //! * [`Plain`]  the machine without a cache.
 //! * [`log`]    the log of calls (CR 1); [`samples`] makes the sample logs of `examples/logs`.
 //! * [`dump`]   a dumped board of 01's edition, checked and repaired (CR 13).
+//! * [`order`]  strangers, and the orders of a run that they cannot tell apart (CR 14).
 //!
 //! Form of each call: first the questions, by rising number (`ask(n, refused_if)?`), none of
 //! which changes anything; only then the changes. So "the lowest that applies is given" and
@@ -15,6 +16,7 @@
 
 pub mod dump;
 pub mod log;
+pub mod order;
 pub mod samples;
 
 // ---------------------------------------------------------------------------------------------
