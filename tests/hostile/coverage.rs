@@ -1,6 +1,7 @@
 //! What was reached: each refusal number and each mark of each call by each route, each case, each call at the limits of P and L,
 //! each value at the end of a width beside each number, each sight at a page's places, what moves and lists meet, what is met in
-//! sets of four, logs, and boards that are checked and repaired; and what must be: in each edition by itself, but for those two.
+//! sets of four, logs, boards that are checked and repaired, and runs that are reordered; and what must be: in each edition by
+//! itself, but for logs and such boards.
 
 use crate::cases::{Case, CASES};
 use crate::dump_sights::Dumps;
@@ -11,6 +12,7 @@ use crate::lists::{self, Reached, Tally, ENDS, SPOTS};
 use crate::log_sights::Logs;
 use crate::marks::{self, MARKED, OUTCOMES};
 use crate::moves;
+use crate::order_sights::{self, On};
 use crate::routes::{Route, ROUTES};
 use crate::sets::{self, By};
 use crate::sights::{Sight, Size, Sweep, SIGHTS, SIZES, SWEEPS};
@@ -177,6 +179,8 @@ pub enum Planned {
     Sets,
     /// Of `dump_runs.rs`, the random ones too.
     Dumps,
+    /// Of `order_runs.rs`, the random ones too.
+    Orders,
 }
 
 /// Whether this call may give this number.
@@ -215,6 +219,9 @@ struct Counts {
     /// What was met in sets of four.
     sets: [sets::Counts; ROUTES.len()],
     pairs: PairCounts,
+    /// What runs that are reordered met, and how many had calls by several routes.
+    orders: [order_sights::Counts; ROUTES.len()],
+    mixed_orders: u64,
     /// Audits of boards, the looks in them, and those after a move.
     audits: u64,
     audit_looks: u64,
@@ -300,6 +307,8 @@ const NONE: Counts = Counts {
     lists: [NO_LISTS; ROUTES.len()],
     sets: [sets::Counts::NONE; ROUTES.len()],
     pairs: PairCounts::NONE,
+    orders: [order_sights::Counts::NONE; ROUTES.len()],
+    mixed_orders: 0,
     audits: 0,
     audit_looks: 0,
     audits_after_move: 0,
@@ -390,7 +399,7 @@ impl Coverage {
                 }
             }
             Some(Planned::Values | Planned::Places | Planned::Moves) => {}
-            Some(Planned::Lists | Planned::Sets | Planned::Dumps) => {}
+            Some(Planned::Lists | Planned::Sets | Planned::Dumps | Planned::Orders) => {}
             None => counts.numbers[route as usize][row][number as usize] += 1,
         }
     }
@@ -426,6 +435,22 @@ impl Coverage {
     /// The pairs of runs in an edition.
     pub fn pairs(&mut self, edition: Edition) -> &mut PairCounts {
         &mut self.of(Sort { edition, fresh: true }).pairs
+    }
+
+    /// A run that is reordered, with what it met where all calls come by one route.
+    pub fn count_order(&mut self, sort: Sort, route: Option<Route>, met: order_sights::Counts) {
+        let counts = self.of(sort);
+        match route {
+            Some(route) => counts.orders[route as usize].add(met),
+            None => counts.mixed_orders += 1,
+        }
+    }
+
+    /// How many runs were reordered.
+    pub fn reordered(&self) -> u64 {
+        let of =
+            |counts: &Counts| counts.mixed_orders + counts.orders.iter().map(|counts| counts.reorderings).sum::<u64>();
+        self.sorts.iter().map(of).sum()
     }
 
     /// The audits in an edition, and the looks in them.
@@ -542,6 +567,10 @@ impl Coverage {
         for (index, (_, words, ..)) in lists::SIGHTS.iter().enumerate() {
             self.row(&mut text, words, |counts| counts.lists.iter().map(|counts| counts.sights[index]).sum::<u64>());
         }
+        writeln!(text, "\n  fresh  sound fresh 4 sound 4  reordered").expect(line);
+        for (index, (_, _, words)) in order_sights::SIGHTS.iter().enumerate() {
+            self.row(&mut text, words, |counts| counts.orders.iter().map(|counts| counts.met(index)).sum::<u64>());
+        }
         writeln!(text, "\nfresh 4 wild 4  in sets of four").expect(line);
         for (index, (_, words, ..)) in sets::SIGHTS.iter().enumerate() {
             let met = |counts: &Counts| counts.sets.iter().map(|counts| counts.met(index)).sum::<u64>();
@@ -650,6 +679,14 @@ impl Counts {
                 counts.each_required(fresh, &mut see);
             }
         }
+        let on = On { edition, fresh };
+        for (counts, (_, route)) in self.orders.iter_mut().zip(ROUTES) {
+            let mut see = |words: Arguments, count: &mut u64| {
+                see(format_args!("{words}, by the {route} route, on {on}"), count);
+            };
+            counts.each_required(&on, &mut see);
+        }
+        see(format_args!("reordered, calls by several routes, on {on}"), &mut self.mixed_orders);
         if fresh {
             see(format_args!("an audit of {sort}"), &mut self.audits);
             see(format_args!("an audit of {sort} after a move"), &mut self.audits_after_move);

@@ -13,11 +13,11 @@ use model::{mapping, page_of_name, slot_read, Board, Call, Edition, Matrix, Shap
 /// The segments, slots, pages and lines that a run plays with.
 pub struct World {
     pub segments: Vec<u64>,
-    slots: Vec<u64>,
+    pub slots: Vec<u64>,
     /// Pages of each segment, by their index in it.
-    indices: Vec<u64>,
+    pub indices: Vec<u64>,
     /// Lines of each page, by their index in it.
-    lines: Vec<u64>,
+    pub lines: Vec<u64>,
 }
 
 impl World {
@@ -158,7 +158,7 @@ pub fn put(board: &mut Board, at: u64, words: (u64, u64)) {
 }
 
 /// Who was used after whom, in some order of uses; or any zeros and ones; or other bytes among them.
-fn wild_matrix(rng: &mut Rng) -> Matrix {
+pub fn wild_matrix(rng: &mut Rng) -> Matrix {
     let bytes: &[u8] = match rng.below(4) {
         0 => return rng.pick(sets::orders()).matrix(),
         1 => &[0, 1],
@@ -491,7 +491,7 @@ pub fn fitting_list(rng: &mut Rng, world: &World, board: &Board) -> List {
 }
 
 /// An access for a list: as one by itself, and as often bad.
-fn item(rng: &mut Rng, world: &World, board: &Board) -> Item {
+pub fn item(rng: &mut Rng, world: &World, board: &Board) -> Item {
     let process = process(rng, board);
     let good = user_access(rng, world, board, process);
     let call = if rng.percent(10) { bad_call(rng, world, board, good) } else { good };

@@ -27,6 +27,10 @@ mod log_sights;
 mod logs;
 mod marks;
 mod moves;
+mod order;
+mod order_faults;
+mod order_runs;
+mod order_sights;
 mod pairs;
 mod places;
 mod plant;
@@ -49,6 +53,7 @@ use dumps::Report;
 use gen::World;
 use limits::EDITIONS;
 use model::{Answer, Board, Edition};
+use order::Reordering;
 use pairs::Failure;
 use plant::Plant;
 use rng::Rng;
@@ -58,7 +63,7 @@ use shrink::Fails;
 use std::process::ExitCode;
 use trace::{Deed, Start, Step, Trace};
 
-const USAGE: &str = "usage: hostile [--calls N] [--logs N] [--boards N] [--seed S] [--plant FAULT]
+const USAGE: &str = "usage: hostile [--calls N] [--logs N] [--boards N] [--orders N] [--seed S] [--plant FAULT]
        hostile --replay FILE
        hostile --self-test
        hostile --largest";
@@ -74,6 +79,10 @@ const LEAST_LOGS: u64 = 400_000;
 const CALLS_PER_DUMP: u64 = 10;
 const LEAST_DUMPS: u64 = 60_000;
 
+/// A run is reordered in each edition for so many calls, but at least so many are.
+const CALLS_PER_ORDER: u64 = 10_000;
+const LEAST_ORDERS: u64 = 300;
+
 /// A pair of runs in each edition is tried for so many boards.
 const BOARDS_PER_PAIR: u64 = 80;
 
@@ -81,6 +90,7 @@ struct Options {
     calls: u64,
     logs: Option<u64>,
     boards: Option<u64>,
+    orders: Option<u64>,
     seed: u64,
     plant: Option<Plant>,
     replay: Option<String>,
@@ -93,6 +103,7 @@ fn options() -> Result<Options, String> {
         calls: DEFAULT_CALLS,
         logs: None,
         boards: None,
+        orders: None,
         seed: DEFAULT_SEED,
         plant: None,
         replay: None,
@@ -106,6 +117,7 @@ fn options() -> Result<Options, String> {
             "--calls" => options.calls = trace::number(&value()?)?,
             "--logs" => options.logs = Some(trace::number(&value()?)?),
             "--boards" => options.boards = Some(trace::number(&value()?)?),
+            "--orders" => options.orders = Some(trace::number(&value()?)?),
             "--seed" => options.seed = trace::number(&value()?)?,
             "--plant" => options.plant = Some(trace::value_of(&plant::all(), &value()?)?),
             "--replay" => options.replay = Some(value()?),
@@ -261,12 +273,21 @@ fn search_and_report(options: &Options) -> Result<(), String> {
         let dumps = dump_runs::planned(&mut rng, options.plant, &mut coverage)?;
         let random = options.boards.unwrap_or(LEAST_DUMPS.max(options.calls / CALLS_PER_DUMP));
         dump_runs::search(&mut rng, random, options.plant, &mut coverage)?;
-        Ok((boards, (planned, logs, trips), dumps))
+        let mut orders = 0;
+        for (edition, _) in EDITIONS {
+            orders += order_runs::planned(&mut rng, edition, options.plant, &mut coverage)?;
+            let random = options.orders.unwrap_or(LEAST_ORDERS.max(options.calls / CALLS_PER_ORDER));
+            order_runs::search(&mut rng, edition, random, options.plant, &mut coverage)?;
+        }
+        Ok((boards, (planned, logs, trips), dumps, orders))
     };
-    let (planned_boards, (planned, logs, trips), dumps) = match runs() {
+    let (planned_boards, (planned, logs, trips), dumps, orders) = match runs() {
         Ok(boards) => boards,
         Err(Failure::Run(trace, difference)) => return Err(report(run::first_difference, *trace, difference)?),
-        Err(Failure::Apart(traces, text)) => return Err(report_pair(&traces, &text)?),
+        Err(Failure::Apart(traces, text)) => {
+            return Err(report_pair(&traces, "process 0 can tell two runs apart", &text)?)
+        }
+        Err(Failure::Reordered(whole, text)) => return Err(report_reordered(*whole, text)?),
     };
     println!("{}\n{}\n\n{}\n", coverage.table(), coverage.logs.table(), coverage.dumps.table());
     let (audits, audit_looks) = coverage.audits();
@@ -277,6 +298,10 @@ fn search_and_report(options: &Options) -> Result<(), String> {
     }
     println!("{}", coverage.logs.told(planned, logs, trips));
     println!("{}", coverage.dumps.told(dumps));
+    println!(
+        "{} runs reordered, {orders} of them planned, all equal but for marks and the cache",
+        coverage.reordered()
+    );
     for (edition, _) in EDITIONS {
         let (counts, sets) = (coverage.pairs(edition), limits::set_lines(edition));
         println!("{} pairs of runs in sets of {sets}, equal for process 0 but for marks:", counts.pairs);
@@ -318,11 +343,21 @@ fn report(fails: Fails, trace: Trace, difference: Difference) -> Result<String, 
 }
 
 /// A pair has no difference of its own in either run, so it is not shrunk: both are written as they are.
-fn report_pair(traces: &[Trace; 2], text: &str) -> Result<String, String> {
+fn report_pair(traces: &[Trace; 2], what: &str, text: &str) -> Result<String, String> {
     for (file, trace) in [TRACE_FILE, "hostile-trace-2.txt"].iter().zip(traces) {
         eprint!("{}", write_trace(file, text, trace)?);
     }
-    Ok(format!("process 0 can tell two runs apart: {text}; they are in {TRACE_FILE} and hostile-trace-2.txt"))
+    Ok(format!("{what}: {text}; they are in {TRACE_FILE} and hostile-trace-2.txt"))
+}
+
+/// Neither has a run and its reordering; but it is known what may be left out of both.
+fn report_reordered(whole: Reordering, text: String) -> Result<String, String> {
+    eprintln!("hostile: difference in a run of {} calls, reordered: {text}", whole.calls.len());
+    let (whole, text) = order::shrink(whole, text);
+    let traces = whole.traces().ok_or("a run that is reordered fails by itself")?;
+    let places: Vec<usize> = whole.order.iter().map(|position| position + 1).collect();
+    eprintln!("hostile: shrunk to {} calls, in the second run in the order {places:?}", whole.calls.len());
+    report_pair(&traces, "a run can be told from its reordering", &text)
 }
 
 fn given_text(given: &Given) -> String {

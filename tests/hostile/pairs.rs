@@ -11,6 +11,7 @@ use crate::coverage::{Coverage, PairCounts};
 use crate::gen::{self, World};
 use crate::limits::*;
 use crate::lists::{Item, List};
+use crate::order::Reordering;
 use crate::rng::Rng;
 use crate::run::{Difference, Given, Run};
 use crate::trace::{Deed, Start, Step, Trace};
@@ -25,6 +26,8 @@ pub enum Failure {
     Run(Box<Trace>, Difference),
     /// Process 0 can tell the two runs apart.
     Apart(Box<[Trace; 2]>, String),
+    /// A run can be told from its reordering.
+    Reordered(Box<Reordering>, String),
 }
 
 /// What is wrong in a pair: the self-test's faults.

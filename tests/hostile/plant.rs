@@ -8,6 +8,7 @@ use crate::limits::{end_of_width, frame_bytes, LINES_PER_PAGE, PAGES_END, PAGE_L
 use crate::list_faults::{self, FAULTS};
 use crate::lists::List;
 use crate::log_faults;
+use crate::order_faults;
 use crate::routes::{Looked, Told};
 use crate::run::Kind;
 use crate::set_faults;
@@ -60,6 +61,8 @@ pub enum Plant {
     Log(Option<log_faults::Wrong>),
     /// None: what stands in for the library has no fault.
     Dump(Option<dump_faults::Wrong>),
+    /// Of runs that are reordered: nothing is wrong in one run by itself.
+    Reordered(order_faults::Wrong),
     Walk(Walk),
     Panic,
     Signal,
@@ -179,17 +182,23 @@ pub enum Moves {
 pub fn all() -> Vec<(Plant, String)> {
     let logs = log_faults::FAULTS.iter().map(|&(wrong, name, _)| (Plant::Log(Some(wrong)), name.to_string()));
     let dumps = dump_faults::FAULTS.iter().map(|&(wrong, name, _)| (Plant::Dump(Some(wrong)), name.to_string()));
-    searched().chain(logs).chain(dumps).chain(walks().map(|(walk, name)| (Plant::Walk(walk), name))).collect()
+    let orders = order_faults::FAULTS.into_iter().map(|(wrong, name)| (Plant::Reordered(wrong), name.to_string()));
+    searched()
+        .chain(logs)
+        .chain(dumps)
+        .chain(orders)
+        .chain(walks().map(|(walk, name)| (Plant::Walk(walk), name)))
+        .collect()
 }
 
-/// All that random runs on boards find: all but those of logs, of checks and repairs, and the walks.
+/// All that random runs on boards find: all but those of logs, of checks and repairs, of reorderings, and the walks.
 pub fn searched() -> impl Iterator<Item = (Plant, String)> {
     let lists = FAULTS.into_iter().map(|(wrong, name, _)| (Plant::List(wrong), name));
     let sets = set_faults::FAULTS.iter().map(|&(wrong, name, ..)| (Plant::Sets(Some(wrong)), name));
     PLANTS.into_iter().chain(lists).chain(sets).map(|(plant, name)| (plant, name.to_string()))
 }
 
-/// All but those in lists, in sets of four, in logs, in checks and repairs, and in walks.
+/// All but those in lists, in sets of four, in logs, in checks and repairs, in reorderings, and in walks.
 pub const PLANTS: [(Plant, &str); 80] = [
     (Plant::Number, "number"),
     (Plant::Value, "value"),
@@ -307,6 +316,7 @@ impl Plant {
             Plant::Sets(wrong) => wrong.map_or(Kind::Panic, |wrong| wrong.found_as()),
             Plant::Log(wrong) => wrong.map_or(Kind::Panic, |wrong| wrong.found_as()),
             Plant::Dump(wrong) => wrong.map_or(Kind::Panic, |wrong| wrong.found_as()),
+            Plant::Reordered(_) => Kind::Reordered,
             Plant::Panic => Kind::Panic,
             Plant::Signal | Plant::Hang | Plant::ReadsBehind | Plant::ReadsBefore => Kind::Signal,
         }

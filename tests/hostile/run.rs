@@ -9,7 +9,7 @@ use crate::dump_routes;
 use crate::dump_sights::{self, Since};
 use crate::dumps::{self, Dump, Expected, Report};
 use crate::guarded::{Element, Lists, Real};
-use crate::limits::{line_bytes, matrix_bytes, LINES_PER_PAGE};
+use crate::limits::{line_bytes, matrix_bytes, LINES_PER_PAGE, LINE_BYTES};
 use crate::lists::{Did, List, Tally};
 use crate::logs::{self, Written};
 use crate::marks;
@@ -54,6 +54,7 @@ pub enum Kind {
     Entry,
     Plain,
     TwoCopies,
+    Reordered,
     Panic,
     Signal,
 }
@@ -168,8 +169,9 @@ impl Run {
         })
     }
 
-    fn compared(&mut self, step: &Step, coverage: &mut Coverage) -> Result<Given, Difference> {
-        let mut manner = step.manner;
+    /// How something is brought that is to be brought so, after the tag's set says what the manner has it say.
+    fn carried(&mut self, manner: &Manner) -> Manner {
+        let mut manner = *manner;
         if manner.route == Route::Safe {
             manner.yes = 1;
         }
@@ -177,6 +179,11 @@ impl Run {
         if manner.route == Route::Safe && !routes::safe_can_carry(&self.real) {
             manner.route = Route::Raw;
         }
+        manner
+    }
+
+    fn compared(&mut self, step: &Step, coverage: &mut Coverage) -> Result<Given, Difference> {
+        let manner = self.carried(&step.manner);
         let given = match step.deed {
             Deed::Call(call) => self.call(&call, &manner, coverage),
             Deed::List(ref list) => self.list(list, manner, coverage),
@@ -469,15 +476,21 @@ impl Run {
     /// lowest record that holds the line, else in memory.
     fn looked(&mut self, line: u64, manner: &Manner) -> Result<Seen, Difference> {
         let (number, holders) = self.holders(line);
+        let seen = Seen { number, holders: holders.len(), lowest: holders.first().copied(), line };
+        self.looked_so(seen, manner)
+    }
+
+    /// The same where it is known how the line has to be seen.
+    fn looked_so(&mut self, seen: Seen, manner: &Manner) -> Result<Seen, Difference> {
+        let Seen { number, line, lowest, .. } = seen;
         let outcome = routes::look(&mut self.real, line, manner);
         let mut looked = outcome.map_err(|text| differs(Kind::Canary, text))?;
         if let Some(plant) = self.plant {
-            plant.after_look(&self.model, holders.first().copied(), &mut self.real, &mut looked);
+            plant.after_look(&self.model, lowest, &mut self.real, &mut looked);
         }
         if let Some(told) = looked.number {
             same(Kind::Look, "look's number", told, number, "01")?;
         }
-        let seen = Seen { number, holders: holders.len(), lowest: holders.first().copied(), line };
         match (looked.bytes, number) {
             (Some((at, length)), 0) => {
                 let expected = self.bytes_of(&seen);
@@ -500,6 +513,34 @@ impl Run {
             None => (self.real.memory.inner(), seen.line),
         };
         &bytes[line_bytes(index)]
+    }
+
+    /// What look shows of every physical line, by a route; one behind the last is refused by 2. Where that is not as it should be,
+    /// gives the line.
+    pub fn shown(&mut self, manner: &Manner) -> Result<Vec<u8>, (u64, Difference)> {
+        let manner = self.carried(manner);
+        let lines = LINES_PER_PAGE * self.model.shape.frames;
+        let mut holders = vec![(0, None); lines as usize];
+        for (at, record) in self.held_at() {
+            let (count, lowest): &mut (usize, Option<u64>) = &mut holders[record.line as usize];
+            *count += 1;
+            lowest.get_or_insert(at);
+        }
+        let mut shown = Vec::with_capacity((LINE_BYTES * lines) as usize);
+        for (line, (holders, lowest)) in (0..).zip(holders) {
+            let seen = Seen { number: 0, holders, lowest, line };
+            let seen = self.looked_so(seen, &manner).map_err(|difference| (line, difference))?;
+            shown.extend_from_slice(self.bytes_of(&seen));
+        }
+        let behind = Seen { number: 2, holders: 0, lowest: None, line: lines };
+        self.looked_so(behind, &manner).map_err(|difference| (lines, difference))?;
+        for line in [0, lines - 1, lines] {
+            let asked = routes::look_number(&mut self.real, line, &manner).map_err(|text| differs(Kind::Canary, text));
+            let number = if line < lines { 0 } else { 2 };
+            asked.and_then(|asked| same(Kind::Look, "look's number", asked, number, "01")).map_err(|d| (line, d))?;
+        }
+        self.same_buffers(true).map_err(|difference| (lines, difference))?;
+        Ok(shown)
     }
 
     fn look(&mut self, line: u64, manner: &Manner, coverage: &mut Coverage) -> Result<Given, Difference> {
@@ -572,10 +613,14 @@ impl Run {
         Ok(Given::Audit)
     }
 
+    /// The records that hold lines, rising.
+    fn held_at(&self) -> impl Iterator<Item = (u64, Record)> + '_ {
+        self.model.all_records().filter_map(|at| self.model.held(at).map(|record| (at, record)))
+    }
+
     /// The held lines, by physical line.
     fn held(&self) -> Vec<(u64, Record)> {
-        let records = self.model.all_records();
-        records.filter_map(|at| self.model.held(at).map(|record| (record.line, record))).collect()
+        self.held_at().map(|(_, record)| (record.line, record)).collect()
     }
 
     // ----- checks and repairs -----

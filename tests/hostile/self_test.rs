@@ -6,6 +6,7 @@ use crate::coverage::Coverage;
 use crate::guarded::Real;
 use crate::limits::{set_lines, EDITIONS};
 use crate::list_faults::FAULTS;
+use crate::order::{self, Reordering};
 use crate::pairs::{self, Failure};
 use crate::places::{lines_of, Boards};
 use crate::plant::{self, Plant, PLANTS};
@@ -18,8 +19,8 @@ use crate::sights::{Size, SWEEPS};
 use crate::trace::{self, Trace};
 use crate::walks::{Walk, WRONGS};
 use crate::{
-    apart, dump_faults, dump_runs, edges, list_runs, log_faults, log_runs, moves, routes, search, set_faults, set_runs,
-    values, Planned,
+    apart, dump_faults, dump_runs, edges, list_runs, log_faults, log_runs, moves, order_faults, order_runs, routes,
+    search, set_faults, set_runs, values, Planned,
 };
 use model::{Board, Edition, Shape};
 use std::collections::HashSet;
@@ -35,6 +36,10 @@ const LOGS: u64 = 5_000;
 
 /// Boards within which a fault of checks and repairs must be found.
 const DUMPS: u64 = 6_000;
+
+/// Reorderings within which a fault of theirs must be found, and calls to which it must shrink in 01's edition.
+const ORDERS: u64 = 1000;
+const ORDER_CALLS: usize = 10;
 
 /// Steps to which it must shrink; so many more in sets of four as it takes accesses more to fill one.
 const STEPS: usize = 8;
@@ -72,6 +77,7 @@ pub fn all() -> Result<(), String> {
     planted_sets()?;
     planted_logs()?;
     planted_dumps()?;
+    planted_orders()?;
     canaries()?;
     println!("each canary, changed, is named");
     let required = unreached()?;
@@ -92,7 +98,9 @@ fn planted(plant: Plant) -> Result<(usize, usize), String> {
     } else {
         match find() {
             Err(Failure::Run(trace, difference)) => (first_difference, (*trace, difference)),
-            Err(Failure::Apart(_, text)) => return Err(format!("found in a pair only: {text}")),
+            Err(Failure::Apart(_, text) | Failure::Reordered(_, text)) => {
+                return Err(format!("found in a pair only: {text}"))
+            }
             Ok(()) => return Err("not found".into()),
         }
     };
@@ -182,6 +190,54 @@ fn planted_dumps() -> Result<(), String> {
          ones"
     );
     Ok(())
+}
+
+/// Faults of runs that are reordered: each must be found in the planned ones and in random ones, of each edition; those of the rule
+/// with an order that the model doesn't allow. In 01's edition it is shrunk, and both traces are written, read and replayed.
+fn planted_orders() -> Result<(), String> {
+    let mut most = 0;
+    for ((wrong, name), (edition, _)) in order_faults::FAULTS.iter().flat_map(|fault| EDITIONS.map(|of| (fault, of))) {
+        if !wrong.is_of(edition) {
+            continue;
+        }
+        let plant = Some(Plant::Reordered(*wrong));
+        let missed = |what: &str| format!("planted fault '{name}' in reordered runs, {edition:?}: {what}");
+        let told = |failure: Option<Failure>, runs: &str| match failure {
+            Some(Failure::Reordered(whole, text)) if wrong.is_rule() == whole.allowed().is_err() => Ok((*whole, text)),
+            Some(Failure::Reordered(..)) => {
+                Err(missed("found, and the model allows what it should not, or not what it should"))
+            }
+            Some(Failure::Run(_, difference)) => Err(missed(&format!("found in one run alone: {}", difference.text))),
+            _ => Err(missed(&format!("not found in {runs} ones"))),
+        };
+        told(order_runs::planned(&mut Rng::new(7), edition, plant, &mut Coverage::new()).err(), "planned")?;
+        let found = order_runs::search(&mut Rng::new(7), edition, ORDERS, plant, &mut Coverage::new()).err();
+        let (whole, text) = told(found, "random")?;
+        if edition == Edition::Ones {
+            most = most.max(shrunk_order(whole, text).map_err(|problem| missed(&problem))?);
+        }
+    }
+    let faults = order_faults::FAULTS.len();
+    println!(
+        "planted faults in reordered runs: {faults}, each found, shrunk to {most} calls at most; found in planned ones"
+    );
+    Ok(())
+}
+
+/// Gives how many calls were left.
+fn shrunk_order(whole: Reordering, text: String) -> Result<usize, String> {
+    let (small, text) = order::shrink(whole, text);
+    if small.calls.len() > ORDER_CALLS {
+        return Err(format!("shrunk to {} calls only: {text}", small.calls.len()));
+    }
+    for trace in small.traces().ok_or("its runs fail by themselves")? {
+        let text = trace::to_text(&trace);
+        let read = trace::from_text(&text).map_err(|problem| format!("its trace cannot be read: {problem}"))?;
+        if trace::to_text(&read) != text || first_difference(&read).is_some() {
+            return Err("its trace changes when it is read and written, or fails alone".into());
+        }
+    }
+    Ok(small.calls.len())
 }
 
 /// Faults in sets of four: each must be found by whatever uses lines it shows with, on wild boards and on fresh ones; those of
