@@ -180,14 +180,16 @@ module _ (s : Shape) (b : Board) (x : Strangers (b .slots) 0 1) where
 
   e-to-f : Reordering (calls s) b runE runF
   e-to-f = record {
-    to = goes;
-    from = comes;
-    same-length = refl;
-    to-inside = seven (λ i. goes i < 7) (omega arith) (omega arith) (omega arith) (omega arith) (omega arith) (omega arith) (omega arith);
-    from-inside = seven (λ j. comes j < 7) (omega arith) (omega arith) (omega arith) (omega arith) (omega arith) (omega arith) (omega arith);
-    from-to = seven (λ i. comes (goes i) ≡ i) refl refl refl refl refl refl refl;
-    to-from = seven (λ j. goes (comes j) ≡ j) refl refl refl refl refl refl refl;
-    same-turns = λ i other h. seven (λ i. getD runF (goes i) other ≡ getD runE i other) refl refl refl refl refl refl refl i h;
+    places = record {
+      to = goes;
+      from = comes;
+      same-length = refl;
+      to-inside = seven (λ i. goes i < 7) (omega arith) (omega arith) (omega arith) (omega arith) (omega arith) (omega arith) (omega arith);
+      from-inside = seven (λ j. comes j < 7) (omega arith) (omega arith) (omega arith) (omega arith) (omega arith) (omega arith) (omega arith);
+      from-to = seven (λ i. comes (goes i) ≡ i) refl refl refl refl refl refl refl;
+      to-from = seven (λ j. goes (comes j) ≡ j) refl refl refl refl refl refl refl;
+      same-turns = λ i other h. seven (λ i. getD runF (goes i) other ≡ getD runE i other) refl refl refl refl refl refl refl i h;
+    };
     keeps-order = λ i j h g never. keeps j g i h never;
   }
 
@@ -224,18 +226,20 @@ module _ (s : Shape) where
 
   reordered-bringing : (b : Board) (ks ls : List Call) → Reordering (calls s) b ks ls → Reordering (broughts s) b (bringing s ks) (bringing s ls)
   reordered-bringing b ks ls r = record {
-    to = r .to;
-    from = r .from;
-    same-length = length-bringing ls ∙ r .same-length ∙ sym (length-bringing ks);
-    to-inside = λ i h. rw (length-bringing ks) (r .to-inside i (rw (length-bringing ks) at h));
-    from-inside = λ j h. rw (length-bringing ks) (r .from-inside j (rw (length-bringing ks) at h));
-    from-to = λ i h. r .from-to i (rw (length-bringing ks) at h);
-    to-from = λ j h. r .to-from j (rw (length-bringing ks) at h);
-    same-turns = λ i other h.
-        let low : i < length ks = rw (length-bringing ks) at h in
-        let there : r .to i < length ls = rw (r .same-length) (r .to-inside i low) in
-        turn-bringing ls (r .to i) other (supervisor flushAll) there ∙ ap (bring s) (r .same-turns i (supervisor flushAll) low)
-        ∙ sym (turn-bringing ks i other (supervisor flushAll) low);
+    places = record {
+      to = r .places .to;
+      from = r .places .from;
+      same-length = length-bringing ls ∙ r .places .same-length ∙ sym (length-bringing ks);
+      to-inside = λ i h. rw (length-bringing ks) (r .places .to-inside i (rw (length-bringing ks) at h));
+      from-inside = λ j h. rw (length-bringing ks) (r .places .from-inside j (rw (length-bringing ks) at h));
+      from-to = λ i h. r .places .from-to i (rw (length-bringing ks) at h);
+      to-from = λ j h. r .places .to-from j (rw (length-bringing ks) at h);
+      same-turns = λ i other h.
+          let low : i < length ks = rw (length-bringing ks) at h in
+          let there : r .places .to i < length ls = rw (r .places .same-length) (r .places .to-inside i low) in
+          turn-bringing ls (r .places .to i) other (supervisor flushAll) there ∙ ap (bring s) (r .places .same-turns i (supervisor flushAll) low)
+          ∙ sym (turn-bringing ks i other (supervisor flushAll) low);
+    };
     keeps-order = λ i j h g never.
         r .keeps-order i j h (rw (length-bringing ks) at g) (λ x. never (rw (board-bringing b ks i, call-bringing ks i, call-bringing ks j) x));
   }
@@ -287,7 +291,7 @@ module _ (edition : Edition) where
     sound = sound;
     strangers = own-strangers;
     reordering = e-to-f s b own-strangers;
-    places = λ i h. refl;
+    goes = λ i h. refl;
     no-single-swap = no-single-swap;
     promised = order .every-shape s .from-sound b sound .of-calls .reorder runE runF tt (e-to-f s b own-strangers);
     replies-E = e;
@@ -297,8 +301,8 @@ module _ (edition : Edition) where
   broken-of : Sound s b → replies s b runE ≡ repliesE → replies s b runG ≡ repliesG → after s b (turns ++ sharing []) .slots ≡ sharedSlots → BrokenOrder edition
   broken-of sound e g shared = record {
     no-strangers = λ x. shared-no-strangers (rw shared at x);
-    no-reordering = λ r. no-51 (r .to 6) (r .to-inside 6 (omega arith))
-        (sym (ap (λ (l : List Reply). replyAt l (r .to 6)) g)
+    no-reordering = λ r. no-51 (r .places .to 6) (r .places .to-inside 6 (omega arith))
+        (sym (ap (λ (l : List Reply). replyAt l (r .places .to 6)) g)
         ∙ sym (order .every-shape s .from-sound b sound .of-calls .reorder runE runG tt r .same-replies 6 (omega arith))
         ∙ ap (λ (l : List Reply). replyAt l 6) e);
     replies-G = g;

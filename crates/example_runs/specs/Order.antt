@@ -78,10 +78,10 @@ pub record ExampleOrder (edition : Edition) : Type 0 where
   pub sound : Sound (twoProcesses edition) (ownPages edition)
   pub strangers : Strangers (ownPages edition .slots) 0 1
   pub reordering : Reordering (calls (twoProcesses edition)) (ownPages edition) runE runF
-  pub places : (i : ℕ) → i < 7 → reordering .to i ≡ getD placesF i 0
+  pub goes : (i : ℕ) → i < 7 → reordering .places .to i ≡ getD placesF i 0
   pub no-single-swap : NoSingleSwap runE runF
   -- so what is promised holds of them
-  pub promised : SameReordered (calls (twoProcesses edition)) (twoProcesses edition) (ownPages edition) runE runF (reordering .to)
+  pub promised : SameReordered (calls (twoProcesses edition)) (twoProcesses edition) (ownPages edition) runE runF (reordering .places .to)
   -- each call gets the same in both, at its place
   pub replies-E : replies (twoProcesses edition) (ownPages edition) runE ≡ gets 0 0 ∷ gets 0 0 ∷ gets 0 50 ∷ gets 0 7 ∷ gets 0 0 ∷ gets 0 0 ∷ gets 0 51 ∷ []
   pub replies-F : replies (twoProcesses edition) (ownPages edition) runF ≡ gets 0 0 ∷ gets 0 7 ∷ gets 0 0 ∷ gets 0 50 ∷ gets 0 0 ∷ gets 0 0 ∷ gets 0 51 ∷ []
@@ -114,7 +114,7 @@ pub record ExampleLists (edition : Edition) : Type 0 where
   pub brings : EachBrings (twoProcesses edition) (ownPages edition) (callsOf (ownPages edition) (listsE (twoProcesses edition)))
   pub reordering : Reordering (broughts (twoProcesses edition)) (ownPages edition)
       (callsOf (ownPages edition) (listsE (twoProcesses edition))) (callsOf (ownPages edition) (listsF (twoProcesses edition)))
-  pub promised : SameOfLists (twoProcesses edition) (ownPages edition) (listsE (twoProcesses edition)) (listsF (twoProcesses edition)) (reordering .to)
+  pub promised : SameOfLists (twoProcesses edition) (ownPages edition) (listsE (twoProcesses edition)) (listsF (twoProcesses edition)) (reordering .places .to)
 
 pub record OrderExamples : Type 0 where
   pub one-line : ExampleOrder oneLine

@@ -134,19 +134,19 @@ module _ {T : Type 0} (w : Kind T) (s : Shape) (shape : T → Shape) (filler : T
     abbrev answer : Reply
     answer = record { number = 0; value = 0 }
 
-    moved : Same next gives slotsOf (Cross w) (Stays w) (plain-swaps w shape) filler answer p ks ls (r .to)
+    moved : Same next gives slotsOf (Cross w) (Stays w) (plain-swaps w shape) filler answer p ks ls (r .places .to)
     moved =
-        same next gives slotsOf (Cross w) (Stays w) (plain-swaps w shape) filler answer ls p ks (r .to) (r .from)
+        same next gives slotsOf (Cross w) (Stays w) (plain-swaps w shape) filler answer ls p ks
         (moves w filler filler-call next gives slotsOf (plain-swaps w shape) answer b p ks ls r
         (λ i. beside .slots-are (boardAt w b ks i) (ran next p (take i ks)) (along b p (take i ks) x (every-take G i ks g))))
 
     -- the turns of the one list are those of the other
     every-moved : Every G ls
     every-moved = every-from G ls filler (λ j h.
-        let i : j < length ks = omega (arith, r .same-length) in
-        let there : G (getD ls (r .to (r .from j)) filler) =
-        rw (r .same-turns (r .from j) filler (r .from-inside j i)) (every-at G ks (r .from j) filler g (r .from-inside j i)) in
-        rw (r .to-from j i) at there)
+        let i : j < length ks = omega (arith, r .places .same-length) in
+        let there : G (getD ls (r .places .to (r .places .from j)) filler) =
+        rw (r .places .same-turns (r .places .from j) filler (r .places .from-inside j i)) (every-at G ks (r .places .from j) filler g (r .places .from-inside j i)) in
+        rw (r .places .to-from j i) at there)
 
     at-first : (i : ℕ) → Q (boardAt w b ks i) (ran next p (take i ks))
     at-first i = along b p (take i ks) x (every-take G i ks g)
@@ -155,25 +155,25 @@ module _ {T : Type 0} (w : Kind T) (s : Shape) (shape : T → Shape) (filler : T
     at-second i = along b p (take i ls) x (every-take G i ls every-moved)
 
     stays-behind : (i : ℕ) → i < length ks → isSupervisors (callAt w ks i) ≡ true
-        → ran next p (take (suc (r .to i)) ls) ≡ ran next p (take (suc i) ks)
+        → ran next p (take (suc (r .places .to i)) ls) ≡ ran next p (take (suc i) ks)
     stays-behind i h y =
-        let l : r .to i < length ls = omega (arith, r .same-length, r .to-inside i h) in
-        ran-place next p ls (r .to i) filler l
-        ∙ ap (λ (z : Plain). next z (getD ls (r .to i) filler)) (moved .stays i h (rw (call-at w filler filler-call ks i) at y) .1)
-        ∙ ap (next (ran next p (take i ks))) (r .same-turns i filler h)
+        let l : r .places .to i < length ls = omega (arith, r .places .same-length, r .places .to-inside i h) in
+        ran-place next p ls (r .places .to i) filler l
+        ∙ ap (λ (z : Plain). next z (getD ls (r .places .to i) filler)) (moved .stays i h (rw (call-at w filler filler-call ks i) at y) .1)
+        ∙ ap (next (ran next p (take i ks))) (r .places .same-turns i filler h)
         ∙ sym (ran-place next p ks i filler h)
 
-    reordered : SameReordered w s b ks ls (r .to)
+    reordered : SameReordered w s b ks ls (r .places .to)
     reordered = record {
       same-replies = λ i h.
           ap (λ (l : List Reply). replyAt l i) (told b p ks x g) ∙ sym (moved .told-same i h)
-          ∙ sym (ap (λ (l : List Reply). replyAt l (r .to i)) (told b p ls x every-moved));
+          ∙ sym (ap (λ (l : List Reply). replyAt l (r .places .to i)) (told b p ls x every-moved));
       shown-before = λ i h y.
-          shown-same (boardAt w b ks i) (boardAt w b ls (r .to i)) (ran next p (take i ks)) (ran next p (take (r .to i) ls)) (at-first i) (at-second (r .to i))
+          shown-same (boardAt w b ks i) (boardAt w b ls (r .places .to i)) (ran next p (take i ks)) (ran next p (take (r .places .to i) ls)) (at-first i) (at-second (r .places .to i))
           (sym (moved .stays i h (rw (call-at w filler filler-call ks i) at y) .1));
       shown-after = λ i h y.
-          shown-same (boardAt w b ks (suc i)) (boardAt w b ls (suc (r .to i))) (ran next p (take (suc i) ks)) (ran next p (take (suc (r .to i)) ls))
-          (at-first (suc i)) (at-second (suc (r .to i))) (sym (stays-behind i h y));
+          shown-same (boardAt w b ks (suc i)) (boardAt w b ls (suc (r .places .to i))) (ran next p (take (suc i) ks)) (ran next p (take (suc (r .places .to i)) ls))
+          (at-first (suc i)) (at-second (suc (r .places .to i))) (sym (stays-behind i h y));
       onward = same-onward (boardAfter w b ks) (boardAfter w b ls) (ran next p ks) (ran next p ls) (along b p ks x g) (along b p ls x every-moved) (sym (moved .ends-same));
     }
 

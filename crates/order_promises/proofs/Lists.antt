@@ -86,7 +86,7 @@ module _ (ks xs : List Brought) (k : Brought) (behind : List Brought) (e : ks �
 
 module _ (s : Shape) (b : Board) (o : OrderOf (broughts s) s b) (ts us : List Turn) (h : EachBrings s b (callsOf b ts))
     (r : Reordering (broughts s) b (callsOf b ts) (callsOf b us)) where
-  abbrev alike : SameReordered (broughts s) s b (callsOf b ts) (callsOf b us) (r .to)
+  abbrev alike : SameReordered (broughts s) s b (callsOf b ts) (callsOf b us) (r .places .to)
   alike = o .reorder (callsOf b ts) (callsOf b us) h r
 
   told : (xs : List Turn) (i : ℕ) → replyAt (repliesOf b xs) i ≡ replyAt (broughtReplies b (callsOf b xs)) i
@@ -115,7 +115,7 @@ module _ (s : Shape) (b : Board) (o : OrderOf (broughts s) s b) (ts us : List Tu
         ap isSupervisors (call-at (broughts s) (bring s (supervisor flushAll)) refl (callsOf b ts) n
         ∙ ap callOf (seam-turn (callsOf b ts) (callsOf b xs) k (callsOf b xs′) first-seam (bring s (supervisor flushAll))))
 
-    there : r .to n ≡ length (callsOf b ys)
+    there : r .places .to n ≡ length (callsOf b ys)
     there = reorderings-brought b s .supervisors-stay (callsOf b ts) (callsOf b us) r n inside supervisors ∙ g
 
     lists-before : SameShown s (afterTurns b xs) (afterTurns b ys)
@@ -149,7 +149,7 @@ module _ (s : Shape) (b : Board) (o : OrderOf (broughts s) s b) (ts us : List Tu
 
 pub lists-ordered : (s : Shape) (b : Board) → OrderOf (broughts s) s b → OrderOfLists s b
 lists-ordered s b o ts us h r = record {
-  same-replies = λ i l. told s b o ts us h r ts i ∙ alike s b o ts us h r .same-replies i l ∙ sym (told s b o ts us h r us (r .to i));
+  same-replies = λ i l. told s b o ts us h r ts i ∙ alike s b o ts us h r .same-replies i l ∙ sym (told s b o ts us h r us (r .places .to i));
   shown-before = lists-before s b o ts us h r;
   shown-after = lists-behind s b o ts us h r;
   shown = lists-shown s b o ts us h r;

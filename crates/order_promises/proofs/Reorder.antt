@@ -11,6 +11,7 @@ use lib.Dec.{eqb, ltb}
 use lib.ListN.{length, getD, take}
 use borrow.Author.Tests.{eqb-true, eqb-false, ltb-true, ltb-false}
 use Rattle.promises.specs.Runs.{ran, gained}
+use Rattle.order_promises.specs.Reorderings.{Rearrangement}
 
 -- ---- a list without one of its elements, and the places of the others
 
@@ -167,15 +168,10 @@ module _ {P K A O : Type 0} (step : P → K → P) (gives : P → K → A) (seen
 
   -- ---- a list moved
 
-  -- the turn at place i of ks stands at place `to i` of ls, that at place j of ls at place `from j` of ks; two turns changed their order only if they may be swapped
-  pub record Moves (p : P) (ks ls : List K) (to from : ℕ → ℕ) : Type 0 where
-    pub same-length : length ls ≡ length ks
-    pub to-inside : (i : ℕ) → i < length ks → to i < length ks
-    pub from-inside : (j : ℕ) → j < length ks → from j < length ks
-    pub from-to : (i : ℕ) → i < length ks → from (to i) ≡ i
-    pub to-from : (j : ℕ) → j < length ks → to (from j) ≡ j
-    pub same-turns : (i : ℕ) → i < length ks → at ls (to i) ≡ at ks i
-    pub crosses : (i j : ℕ) → i < j → j < length ks → to j < to i → Cross (seen (runs p (take i ks))) (at ks i) (at ks j)
+  -- a rearrangement in which two turns changed their order only if they may be swapped
+  pub record Moves (p : P) (ks ls : List K) : Type 0 where
+    pub places : Rearrangement ks ls
+    pub crosses : (i j : ℕ) → i < j → j < length ks → places .to j < places .to i → Cross (seen (runs p (take i ks))) (at ks i) (at ks j)
 
   -- a turn that stands at the same place of both, before the same state
   abbrev pub Stood : P → List K → List K → (ℕ → ℕ) → ℕ → Type 0
@@ -189,7 +185,13 @@ module _ {P K A O : Type 0} (step : P → K → P) (gives : P → K → A) (seen
     pub stays : (i : ℕ) → i < length ks → Stays (at ks i) → Stood p ks ls to i
 
   -- the first turn of ls stands at place f of ks
-  module _ (p : P) (ks : List K) (l : K) (ls : List K) (to from : ℕ → ℕ) (m : Moves p ks (l ∷ ls) to from) where
+  module _ (p : P) (ks : List K) (l : K) (ls : List K) (m : Moves p ks (l ∷ ls)) where
+    abbrev to : ℕ → ℕ
+    to = m .places .to
+
+    abbrev from : ℕ → ℕ
+    from = m .places .from
+
     abbrev f : ℕ
     f = from 0
 
@@ -204,13 +206,13 @@ module _ {P K A O : Type 0} (step : P → K → P) (gives : P → K → A) (seen
     from-rest j = unskip f (from (suc j))
 
     f-inside : f < length ks
-    f-inside = m .from-inside 0 (omega (arith, m .same-length))
+    f-inside = m .places .from-inside 0 (omega (arith, m .places .same-length))
 
     to-f : to f ≡ 0
-    to-f = m .to-from 0 (omega (arith, m .same-length))
+    to-f = m .places .to-from 0 (omega (arith, m .places .same-length))
 
     f-turn : at ks f ≡ l
-    f-turn = sym (m .same-turns f f-inside) ∙ ap (at (l ∷ ls)) to-f
+    f-turn = sym (m .places .same-turns f k₀ f-inside) ∙ ap (at (l ∷ ls)) to-f
 
     rest-length : suc (length rest) ≡ length ks
     rest-length = length-remove f ks f-inside
@@ -220,7 +222,7 @@ module _ {P K A O : Type 0} (step : P → K → P) (gives : P → K → A) (seen
     to-other i h d = go (to i) refl
       where
         go : (n : ℕ) → to i ≡ n → suc (pred n) ≡ n
-        go zero e = absurd (d (sym (m .from-to i h) ∙ ap from e))
+        go zero e = absurd (d (sym (m .places .from-to i h) ∙ ap from e))
         go (suc n) e = refl
 
     free : Free p ks f
@@ -240,7 +242,7 @@ module _ {P K A O : Type 0} (step : P → K → P) (gives : P → K → A) (seen
 
     from-other : (j : ℕ) → j < length rest → from (suc j) ≢ f
     from-other j h e =
-        let z : suc j ≡ 0 = sym (m .to-from (suc j) (omega (arith, rest-length))) ∙ ap to e ∙ to-f in
+        let z : suc j ≡ 0 = sym (m .places .to-from (suc j) (omega (arith, rest-length))) ∙ ap to e ∙ to-f in
         omega arith
 
     skip-mono : (i j : ℕ) → i < j → skip f i < skip f j
@@ -268,14 +270,20 @@ module _ {P K A O : Type 0} (step : P → K → P) (gives : P → K → A) (seen
             let high = ltb-false i f t in
             rw (← front-above p ks f i f-inside high free) (subst now (skip-above f i high) before)
 
-    rest-moves : Moves (step p (at ks f)) rest ls to-rest from-rest
+    rest-moves : Moves (step p (at ks f)) rest ls
     rest-moves = record {
-      same-length = omega (arith, m .same-length, rest-length);
-      to-inside = λ i h. omega (arith, m .to-inside (skip f i) (skip-inside i h), to-skip i h, rest-length);
-      from-inside = λ j h. unskip-inside f (from (suc j)) (length rest) (from-other j h) (rw rest-length (m .from-inside (suc j) (omega (arith, rest-length)))) (rw rest-length f-inside);
-      from-to = λ i h. ap (λ (x : ℕ). unskip f (from x)) (to-skip i h) ∙ ap (unskip f) (m .from-to (skip f i) (skip-inside i h)) ∙ unskip-skip f i;
-      to-from = λ j h. ap (λ (x : ℕ). pred (to x)) (skip-unskip f (from (suc j)) (from-other j h)) ∙ ap pred (m .to-from (suc j) (omega (arith, rest-length)));
-      same-turns = λ i h. ap (at (l ∷ ls)) (to-skip i h) ∙ m .same-turns (skip f i) (skip-inside i h) ∙ sym (getD-remove f ks i k₀);
+      places = record {
+        to = to-rest;
+        from = from-rest;
+        same-length = omega (arith, m .places .same-length, rest-length);
+        to-inside = λ i h. omega (arith, m .places .to-inside (skip f i) (skip-inside i h), to-skip i h, rest-length);
+        from-inside = λ j h.
+            unskip-inside f (from (suc j)) (length rest) (from-other j h) (rw rest-length (m .places .from-inside (suc j) (omega (arith, rest-length)))) (rw rest-length f-inside);
+        from-to = λ i h. ap (λ (x : ℕ). unskip f (from x)) (to-skip i h) ∙ ap (unskip f) (m .places .from-to (skip f i) (skip-inside i h)) ∙ unskip-skip f i;
+        to-from = λ j h. ap (λ (x : ℕ). pred (to x)) (skip-unskip f (from (suc j)) (from-other j h)) ∙ ap pred (m .places .to-from (suc j) (omega (arith, rest-length)));
+        same-turns = λ i other h.
+            ap (λ (x : ℕ). getD (l ∷ ls) x other) (to-skip i h) ∙ m .places .same-turns (skip f i) other (skip-inside i h) ∙ sym (getD-remove f ks i other);
+      };
       crosses = rest-crosses;
     }
 
@@ -295,7 +303,10 @@ module _ {P K A O : Type 0} (step : P → K → P) (gives : P → K → A) (seen
         told-at : (i : ℕ) → i < length ks → (t : Bool) → eqb i f ≡ t → getD (told p (l ∷ ls)) (to i) a₀ ≡ getD (told p ks) i a₀
         told-at i h true t =
             let e : i ≡ f = eqb-true i f t in
-            rw (e, to-f, ← f-turn) (sym (front-told p ks f f-inside free))
+            ap (λ (y : ℕ). getD (told p (l ∷ ls)) y a₀) (ap to e ∙ to-f)
+            ∙ ap (gives p) (sym f-turn)
+            ∙ sym (front-told p ks f f-inside free)
+            ∙ ap (λ (y : ℕ). getD (told p ks) y a₀) (sym e)
         told-at i h false t =
             let d : i ≢ f = eqb-false i f t in
             let x = unskip f i in
@@ -364,13 +375,13 @@ module _ {P K A O : Type 0} (step : P → K → P) (gives : P → K → A) (seen
             let g = ltb-false (suc y) f v in
             stays-above y h (omega arith) x
 
-  pub same : (ls : List K) (p : P) (ks : List K) (to from : ℕ → ℕ) → Moves p ks ls to from → Same p ks ls to
-  unfolding ran gained
-  same [] p [] to from m = record { told-same = λ i h. absurd (omega arith); ends-same = refl; seen-same = λ i h. absurd (omega arith); stays = λ i h x. absurd (omega arith) }
-  same [] p (k ∷ ks) to from m = absurd (omega (arith, m .same-length))
-  same (l ∷ ls) p ks to from m =
-      rest-same p ks l ls to from m
-      (same ls (step p (at ks (from 0))) (remove (from 0) ks) (to-rest p ks l ls to from m) (from-rest p ks l ls to from m) (rest-moves p ks l ls to from m))
+  pub same : (ls : List K) (p : P) (ks : List K) (m : Moves p ks ls) → Same p ks ls (m .places .to)
+  unfolding ran gained rest-moves
+  same [] p [] m = record { told-same = λ i h. absurd (omega arith); ends-same = refl; seen-same = λ i h. absurd (omega arith); stays = λ i h x. absurd (omega arith) }
+  same [] p (k ∷ ks) m = absurd (omega (arith, m .places .same-length))
+  same (l ∷ ls) p ks m =
+      rest-same p ks l ls m
+      (same ls (step p (at ks (m .places .from 0))) (remove (m .places .from 0) ks) (rest-moves p ks l ls m))
 
   -- ---- the same by swaps of neighbours: two in front, after the same first turn, one after another
 
@@ -387,11 +398,11 @@ module _ {P K A O : Type 0} (step : P → K → P) (gives : P → K → A) (seen
   front-reached p (k ∷ ks) (suc f) h c = one-then (after-first (front-reached (step p k) ks f (omega arith) (free-later p k ks f c))) (swap-front (c 0 (omega arith)))
 
   -- every list moved is reached
-  pub reached : (ls : List K) (p : P) (ks : List K) (to from : ℕ → ℕ) → Moves p ks ls to from → Reached p ks ls
-  reached [] p [] to from m = same-list
-  reached [] p (k ∷ ks) to from m = absurd (omega (arith, m .same-length))
-  reached (l ∷ ls) p ks to from m =
-      let x = from 0 in
-      rw (← f-turn p ks l ls to from m)
-      (one-then (front-reached p ks x (f-inside p ks l ls to from m) (free p ks l ls to from m))
-      (after-first (reached ls (step p (at ks x)) (remove x ks) (to-rest p ks l ls to from m) (from-rest p ks l ls to from m) (rest-moves p ks l ls to from m))))
+  pub reached : (ls : List K) (p : P) (ks : List K) → Moves p ks ls → Reached p ks ls
+  reached [] p [] m = same-list
+  reached [] p (k ∷ ks) m = absurd (omega (arith, m .places .same-length))
+  reached (l ∷ ls) p ks m =
+      let x = m .places .from 0 in
+      rw (← f-turn p ks l ls m)
+      (one-then (front-reached p ks x (f-inside p ks l ls m) (free p ks l ls m))
+      (after-first (reached ls (step p (at ks x)) (remove x ks) (rest-moves p ks l ls m))))

@@ -59,34 +59,28 @@ module _ {T : Type 0} (w : Kind T) where
         (b : Board) (p : P) (ks ls : List T) (r : Reordering w b ks ls)
         (slots-at : (i : ℕ) → boardAt w b ks i .slots ≡ seen (ran next p (take i ks))) where
       -- two that changed their order may cross
-      crosses : (i j : ℕ) → i < j → j < length ks → r .to j < r .to i → Cross (seen (ran next p (take i ks))) (getD ks i filler) (getD ks j filler)
+      pub crosses : (i j : ℕ) → i < j → j < length ks → r .places .to j < r .places .to i → Cross (seen (ran next p (take i ks))) (getD ks i filler) (getD ks j filler)
       crosses i j h g t =
           cross-stable (seen (ran next p (take i ks))) (w .call (getD ks i filler)) (w .call (getD ks j filler))
           (λ never. let z = r .keeps-order i j h g (λ x. never (rw (← slots-at i, ← call-at ks i, ← call-at ks j) x)) in omega arith)
 
-      pub moves : Moves next gives seen Cross Stays laws filler answer p ks ls (r .to) (r .from)
-      moves = record {
-        same-length = r .same-length;
-        to-inside = r .to-inside;
-        from-inside = r .from-inside;
-        from-to = r .from-to;
-        to-from = r .to-from;
-        same-turns = λ i h. r .same-turns i filler h;
-        crosses = crosses;
-      }
+      abbrev pub moves : Moves next gives seen Cross Stays laws filler answer p ks ls
+      moves = record { places = r .places; crosses = crosses }
 
   -- ---- lists that are a reordering by themselves
 
   pub reordering-none : (b : Board) (ks : List T) → Reordering w b ks ks
   reordering-none b ks = record {
-    to = λ i. i;
-    from = λ j. j;
-    same-length = refl;
-    to-inside = λ i h. h;
-    from-inside = λ j h. h;
-    from-to = λ i h. refl;
-    to-from = λ j h. refl;
-    same-turns = λ i other h. refl;
+    places = record {
+      to = λ i. i;
+      from = λ j. j;
+      same-length = refl;
+      to-inside = λ i h. h;
+      from-inside = λ j h. h;
+      from-to = λ i h. refl;
+      to-from = λ j h. refl;
+      same-turns = λ i other h. refl;
+    };
     keeps-order = λ i j h g never. h;
   }
 
@@ -105,12 +99,12 @@ module _ {T : Type 0} (w : Kind T) where
     returns f g h zero d = refl
     returns f g h (suc i) d = ap suc (h i (omega arith))
 
-    turns : (i : ℕ) (other : T) → i < suc (length ks) → getD (k ∷ ls) (onward (r .to) i) other ≡ getD (k ∷ ks) i other
+    turns : (i : ℕ) (other : T) → i < suc (length ks) → getD (k ∷ ls) (onward (r .places .to) i) other ≡ getD (k ∷ ks) i other
     turns zero other h = refl
-    turns (suc i) other h = r .same-turns i other (omega arith)
+    turns (suc i) other h = r .places .same-turns i other (omega arith)
 
     order : (i j : ℕ) → i < j → j < suc (length ks) → (MayCross (boardAt w b (k ∷ ks) i .slots) (callAt w (k ∷ ks) i) (callAt w (k ∷ ks) j) → ⊥)
-        → onward (r .to) i < onward (r .to) j
+        → onward (r .places .to) i < onward (r .places .to) j
     unfolding ran
     order zero zero h g never = absurd (omega arith)
     order zero (suc j) h g never = omega arith
@@ -119,14 +113,16 @@ module _ {T : Type 0} (w : Kind T) where
 
     pub reordering-later : Reordering w b (k ∷ ks) (k ∷ ls)
     reordering-later = record {
-      to = onward (r .to);
-      from = onward (r .from);
-      same-length = ap suc (r .same-length);
-      to-inside = inside (r .to) (r .to-inside);
-      from-inside = inside (r .from) (r .from-inside);
-      from-to = returns (r .from) (r .to) (r .from-to);
-      to-from = returns (r .to) (r .from) (r .to-from);
-      same-turns = turns;
+      places = record {
+        to = onward (r .places .to);
+        from = onward (r .places .from);
+        same-length = ap suc (r .places .same-length);
+        to-inside = inside (r .places .to) (r .places .to-inside);
+        from-inside = inside (r .places .from) (r .places .from-inside);
+        from-to = returns (r .places .from) (r .places .to) (r .places .from-to);
+        to-from = returns (r .places .to) (r .places .from) (r .places .to-from);
+        same-turns = turns;
+      };
       keeps-order = order;
     }
 
@@ -168,14 +164,16 @@ module _ {T : Type 0} (w : Kind T) where
 
     reordering-swap : Reordering w b (k ∷ l ∷ ks) (l ∷ k ∷ ks)
     reordering-swap = record {
-      to = other-place;
-      from = other-place;
-      same-length = refl;
-      to-inside = other-inside;
-      from-inside = other-inside;
-      from-to = other-returns;
-      to-from = other-returns;
-      same-turns = other-turns;
+      places = record {
+        to = other-place;
+        from = other-place;
+        same-length = refl;
+        to-inside = other-inside;
+        from-inside = other-inside;
+        from-to = other-returns;
+        to-from = other-returns;
+        same-turns = other-turns;
+      };
       keeps-order = other-order;
     }
 

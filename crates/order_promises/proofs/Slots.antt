@@ -49,24 +49,24 @@ module _ {T : Type 0} (w : Kind T) (filler : T) (filler-call : w .call filler �
   }
 
   module _ (ks ls : List T) (r : Reordering w b ks ls) where
-    abbrev moved : Moves next nothing all (Cross w) (Stays w) laws filler tt (b .slots) ks ls (r .to) (r .from)
+    abbrev moved : Moves next nothing all (Cross w) (Stays w) laws filler tt (b .slots) ks ls
     moved = moves w filler filler-call next nothing all laws tt b (b .slots) ks ls r (λ i. run-slots (take i ks))
 
-    abbrev kept : Same next nothing all (Cross w) (Stays w) laws filler tt (b .slots) ks ls (r .to)
-    kept = same next nothing all (Cross w) (Stays w) laws filler tt ls (b .slots) ks (r .to) (r .from) moved
+    abbrev kept : Same next nothing all (Cross w) (Stays w) laws filler tt (b .slots) ks ls (r .places .to)
+    kept = same next nothing all (Cross w) (Stays w) laws filler tt ls (b .slots) ks moved
 
-    same-slots : (i : ℕ) → i < length ks → boardAt w b ks i .slots ≡ boardAt w b ls (r .to i) .slots
-    same-slots i h = run-slots (take i ks) ∙ sym (kept .seen-same i h) ∙ sym (run-slots (take (r .to i) ls))
+    same-slots : (i : ℕ) → i < length ks → boardAt w b ks i .slots ≡ boardAt w b ls (r .places .to i) .slots
+    same-slots i h = run-slots (take i ks) ∙ sym (kept .seen-same i h) ∙ sym (run-slots (take (r .places .to i) ls))
 
-    supervisors-stay : (i : ℕ) → i < length ks → isSupervisors (callAt w ks i) ≡ true → r .to i ≡ i
+    supervisors-stay : (i : ℕ) → i < length ks → isSupervisors (callAt w ks i) ≡ true → r .places .to i ≡ i
     supervisors-stay i h y = kept .stays i h (rw (call-at w filler filler-call ks i) at y) .0
 
     -- between two that change their order stands no supervisor call
-    module _ (i j : ℕ) (h : i < j) (g : j < length ks) (t : r .to j < r .to i) where
+    module _ (i j : ℕ) (h : i < j) (g : j < length ks) (t : r .places .to j < r .places .to i) where
       no-supervisor : (x : ℕ) → i ≤ x → x < j → isSupervisors (callAt w ks x) ≡ true → ⊥
       no-supervisor x a c e = go (eqb i x) refl
         where
-          before : r .to x < r .to j
+          before : r .places .to x < r .places .to j
           before = r .keeps-order x j c g (λ y. true≢false (sym e ∙ cross-first _ (callAt w ks x) (callAt w ks j) y))
 
           go : (u : Bool) → eqb i x ≡ u → ⊥
@@ -115,38 +115,40 @@ module _ {T : Type 0} (w : Kind T) (filler : T) (filler-call : w .call filler �
   reached-all : (ks ls : List T) → Reordering w b ks ls → BySwaps w b ks ls
   unfolding ran
   reached-all ks ls r =
-      by-swaps (b .slots) ks ls (reached next nothing all (Cross w) (Stays w) laws filler tt ls (b .slots) ks (r .to) (r .from) (moved ks ls r)) ks [] refl none
+      by-swaps (b .slots) ks ls (reached next nothing all (Cross w) (Stays w) laws filler tt ls (b .slots) ks (moved ks ls r)) ks [] refl none
 
   -- one after another
   module _ (ks ls ms : List T) (r : Reordering w b ks ls) (q : Reordering w b ls ms) where
     in-second : (i : ℕ) → i < length ks → i < length ls
-    in-second i h = omega (arith, r .same-length)
+    in-second i h = omega (arith, r .places .same-length)
 
     in-first : (i : ℕ) → i < length ls → i < length ks
-    in-first i h = omega (arith, r .same-length)
+    in-first i h = omega (arith, r .places .same-length)
 
-    to-second : (i : ℕ) → i < length ks → r .to i < length ls
-    to-second i h = in-second (r .to i) (r .to-inside i h)
+    to-second : (i : ℕ) → i < length ks → r .places .to i < length ls
+    to-second i h = in-second (r .places .to i) (r .places .to-inside i h)
 
-    from-second : (j : ℕ) → j < length ks → q .from j < length ks
-    from-second j h = in-first (q .from j) (q .from-inside j (in-second j h))
+    from-second : (j : ℕ) → j < length ks → q .places .from j < length ks
+    from-second j h = in-first (q .places .from j) (q .places .from-inside j (in-second j h))
 
-    call-kept : (i : ℕ) → i < length ks → callAt w ls (r .to i) ≡ callAt w ks i
-    call-kept i h = call-at w filler filler-call ls (r .to i) ∙ ap (w .call) (r .same-turns i filler h) ∙ sym (call-at w filler filler-call ks i)
+    call-kept : (i : ℕ) → i < length ks → callAt w ls (r .places .to i) ≡ callAt w ks i
+    call-kept i h = call-at w filler filler-call ls (r .places .to i) ∙ ap (w .call) (r .places .same-turns i filler h) ∙ sym (call-at w filler filler-call ks i)
 
     again : Reordering w b ks ms
     again = record {
-      to = λ i. q .to (r .to i);
-      from = λ j. r .from (q .from j);
-      same-length = q .same-length ∙ r .same-length;
-      to-inside = λ i h. in-first (q .to (r .to i)) (q .to-inside (r .to i) (to-second i h));
-      from-inside = λ j h. r .from-inside (q .from j) (from-second j h);
-      from-to = λ i h. ap (r .from) (q .from-to (r .to i) (to-second i h)) ∙ r .from-to i h;
-      to-from = λ j h. ap (q .to) (r .to-from (q .from j) (from-second j h)) ∙ q .to-from j (in-second j h);
-      same-turns = λ i other h. q .same-turns (r .to i) other (to-second i h) ∙ r .same-turns i other h;
+      places = record {
+        to = λ i. q .places .to (r .places .to i);
+        from = λ j. r .places .from (q .places .from j);
+        same-length = q .places .same-length ∙ r .places .same-length;
+        to-inside = λ i h. in-first (q .places .to (r .places .to i)) (q .places .to-inside (r .places .to i) (to-second i h));
+        from-inside = λ j h. r .places .from-inside (q .places .from j) (from-second j h);
+        from-to = λ i h. ap (r .places .from) (q .places .from-to (r .places .to i) (to-second i h)) ∙ r .places .from-to i h;
+        to-from = λ j h. ap (q .places .to) (r .places .to-from (q .places .from j) (from-second j h)) ∙ q .places .to-from j (in-second j h);
+        same-turns = λ i other h. q .places .same-turns (r .places .to i) other (to-second i h) ∙ r .places .same-turns i other h;
+      };
       keeps-order = λ i j h g never.
           let low : i < length ks = omega arith in
-          q .keeps-order (r .to i) (r .to j) (r .keeps-order i j h g never) (to-second j g)
+          q .keeps-order (r .places .to i) (r .places .to j) (r .keeps-order i j h g never) (to-second j g)
           (λ z. never (rw (← same-slots ks ls r i low, call-kept i low, call-kept j g) at z));
     }
 

@@ -56,7 +56,7 @@ pub record OrderOf {T : Type 0} (w : Kind T) (s : Shape) (b : Board) : Type 0 wh
   -- any two neighbours that may cross, after any turns `before`
   pub swap : (before : List T) (k l : T) → w .Meant b (before ++ k ∷ l ∷ []) → MayCross (boardAfter w b before .slots) (w .call k) (w .call l)
       → Swapped w s (boardAfter w b before) k l
-  pub reorder : (ks ls : List T) → w .Meant b ks → (r : Reordering w b ks ls) → SameReordered w s b ks ls (r .to)
+  pub reorder : (ks ls : List T) → w .Meant b ks → (r : Reordering w b ks ls) → SameReordered w s b ks ls (r .places .to)
 
 -- ---- runs in which lists of accesses come (CR 12): such a run is the run of the calls that it stands for
 
@@ -80,7 +80,7 @@ pub record SameOfLists (s : Shape) (b : Board) (ts us : List Turn) (to : ℕ →
 
 abbrev pub OrderOfLists : Shape → Board → Type 0
 OrderOfLists s b =
-    (ts us : List Turn) → EachBrings s b (callsOf b ts) → (r : Reordering (broughts s) b (callsOf b ts) (callsOf b us)) → SameOfLists s b ts us (r .to)
+    (ts us : List Turn) → EachBrings s b (callsOf b ts) → (r : Reordering (broughts s) b (callsOf b ts) (callsOf b us)) → SameOfLists s b ts us (r .places .to)
 
 -- ---- the promise
 
