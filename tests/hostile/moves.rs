@@ -25,6 +25,7 @@ macro_rules! sights {
         pub const SIGHTS: &[(Sight, Reached, &str)] = &[$((Sight::$sight, $reached, $words)),*];
     };
 }
+pub(crate) use sights;
 
 sights! {
     Anywhere NoLines "done, no line held of either page";

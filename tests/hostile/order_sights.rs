@@ -3,6 +3,7 @@
 //! whose calls all come by one route; the planned ones of `order_runs.rs` reach it.
 
 use crate::limits::*;
+use crate::moves::sights;
 use crate::order::{is_store, kind_of, process_of, Made, Reordering, SUPERVISOR};
 use model::{mark, Call, Edition};
 use std::collections::BTreeSet;
@@ -15,16 +16,6 @@ pub enum Reached {
     Anywhere,
     OnSound,
     InFours,
-}
-
-macro_rules! sights {
-    ($($reached:ident $sight:ident $words:literal;)*) => {
-        #[derive(Clone, Copy, Debug, PartialEq, Eq)]
-        pub enum Sight { $($sight),* }
-
-        /// On which boards it must be met, and in words.
-        pub const SIGHTS: &[(Sight, Reached, &str)] = &[$((Sight::$sight, $reached, $words)),*];
-    };
 }
 
 sights! {
