@@ -1,23 +1,25 @@
 // 01, "Addresses": effective, global and physical addresses, what they reach, and page table entries.
+#![tactic(auto)]
+
 ghost use Rattle.std.specs.Prelude.{◌≡◌, ◌/◌, ◌<◌, ◌^◌};
 ghost use Rattle.address.specs.Layout.{page_bytes, prefix_bytes, page_end};
 ghost use Rattle.address.specs.Addresses.{slot_of, global_of, page_of, name_of, physical_line_of, frame_of_physical, prefix_of, region_of, physical_of, in_frame, entry_of, is_kernels, attachable, ordinary_page};
 ghost use Rattle.address.specs.Entries.{AskedEntry};
 
 // An address as a process brings it: 32 bits.
-#[derive(Drop)]
+#[derive(Clone, Copy)]
 pub struct Effective(pub u32);
 
 // An address in the one space that all processes share: 44 bits.
-#[derive(Drop)]
+#[derive(Clone, Copy)]
 pub struct Global(pub u64);
 
 // An address in memory: 32 bits.
-#[derive(Drop)]
+#[derive(Clone, Copy)]
 pub struct Physical(pub u32);
 
 // What a global address reaches.
-#[derive(Drop)]
+#[derive(Clone, Copy)]
 pub enum Region {
     Uncached,
     Cached,
@@ -26,7 +28,7 @@ pub enum Region {
 }
 
 // What asking for the page table entry of a page gives: where it stands, or a refusal.
-#[derive(Drop)]
+#[derive(Clone, Copy)]
 pub enum Entry {
     At(Global),
     Refused,

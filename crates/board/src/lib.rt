@@ -1,11 +1,13 @@
 // 01, "The board": F, U, P and L, their limits and the lengths of the buffers (number 1), and what calls and searches give.
+#![tactic(auto)]
+
 ghost use Rattle.std.specs.Prelude.{◌≡◌, ◌*◌, ◌/◌, ◌≤◌, ◌<◌};
 ghost use Rattle.board.specs.Answers.{answer, mark_no_access, mark_of};
 ghost use Rattle.board.specs.Lists.{bit};
 ghost use Rattle.board.specs.Shapes.{edition_holds, limits_hold, matrices_of, lengths_agree, fits_shape, max_frames, max_processes, max_lines};
 
 // The numbers F, U, P and L of a board, and the lines in a set: 1 in 01's edition, 4 in that of sets of four (CR 4).
-#[derive(Drop)]
+#[derive(Clone, Copy)]
 pub struct Shape {
     pub frames: usize,
     pub uncached: usize,
@@ -15,14 +17,14 @@ pub struct Shape {
 }
 
 // The pending tag: a line name, if one is set.
-#[derive(Drop)]
+#[derive(Clone, Copy)]
 pub struct Pending {
     pub set: bool,
     pub name: u64,
 }
 
 // What a call gives: 01's number, the value, and the mark, which says how an access went.
-#[derive(Drop)]
+#[derive(Clone, Copy)]
 pub struct Answer {
     pub number: u32,
     pub value: u32,
@@ -77,14 +79,14 @@ pub fn accessed(value: u32, mark: u32) -> Answer
 }
 
 // What a search finds.
-#[derive(Drop)]
+#[derive(Clone, Copy)]
 pub enum Found {
     At(usize),
     Nothing,
 }
 
 // The physical line of a line name, and whether users may write it.
-#[derive(Drop)]
+#[derive(Clone, Copy)]
 pub enum Home {
     Line(usize, bool),
     Nowhere,

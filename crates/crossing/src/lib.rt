@@ -1,5 +1,7 @@
 // How answers, flags and the entry of a page cross to C and Rust: an answer as one number, number * 2^56 + mark * 2^32 + value;
 // an entry as number * 2^44 + its global address.
+#![tactic(auto)]
+
 ghost use Rattle.std.specs.Prelude.{◌≡◌};
 ghost use Rattle.crossing.specs.Packing.{unpacked, Small, word_after};
 ghost use Rattle.crossing.specs.Entries.{EntryReturned};

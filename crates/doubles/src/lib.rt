@@ -1,5 +1,7 @@
 // The lowest place whose key stands again at a higher one, found with a tree of the places: a key for each place and two links for
 // each, in words that the caller lends. A search turns once for each bit of its key at most.
+#![tactic(auto)]
+
 ghost use Rattle.std.specs.Prelude.{◌≡◌, ℕ, ◌+◌, ◌*◌, ◌≤◌, ◌<◌, length, get_or};
 ghost use Rattle.doubles.specs.Trees.{Tree, Sought, Placed, lower_of};
 ghost use Rattle.board.specs.Searches.{first};
@@ -8,7 +10,7 @@ ghost use Rattle.doubles.specs.Doubles.{repeats};
 use board::Found;
 
 // Where the search for a key ends: at a place that has the key, or at an open link.
-#[derive(Drop)]
+#[derive(Clone, Copy)]
 pub enum Spot {
     Taken(usize),
     Open(usize),

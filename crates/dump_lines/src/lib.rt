@@ -1,5 +1,7 @@
 // Rules 3 to 5 of a dumped board (CR 13), where no page has two frames: no physical line is held twice, each held line is at home,
 // and unchanged ones equal memory.
+#![tactic(auto)]
+
 ghost use Rattle.std.specs.Prelude.{◌≡◌, ◌+◌, ◌*◌, ◌≤◌, ◌<◌, length};
 ghost use Rattle.address.specs.Layout.{line_bytes, page_lines};
 ghost use Rattle.board.specs.Searches.{first};

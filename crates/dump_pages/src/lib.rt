@@ -1,4 +1,6 @@
 // Rule 2 of a dumped board (CR 13): no page has two frames from U up.
+#![tactic(auto)]
+
 ghost use Rattle.std.specs.Prelude.{◌≡◌, ◌*◌, ◌≤◌, ◌<◌, length};
 ghost use Rattle.doubles.specs.Doubles.{keys_of};
 ghost use Rattle.dump_pages.specs.Pages.{page_at, doubled_page};

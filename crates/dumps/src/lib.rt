@@ -1,4 +1,6 @@
 // The checker of a dumped board (CR 13): the first broken rule, and the lowest frame or place in it. Its scratch may hold anything.
+#![tactic(auto)]
+
 ghost use Rattle.std.specs.Prelude.{◌≡◌, false, ◌*◌, ◌≤◌, length};
 ghost use Rattle.board.specs.Shapes.{max_frames, max_lines};
 ghost use Rattle.board.specs.declared.Found.TheVariants.{Nothing};
@@ -17,7 +19,7 @@ use dump_lines::{AT_HOME, EQUALS_MEMORY};
 // What a check or a repair gives. The number is the call's own: 1 where the scratch is too short, or the flags of a repair are not as many as
 // the lines, and then the rest is 0.
 // Else the first broken rule, 0 if there is none; the lowest frame or place in it; and how many lines a repair dropped.
-#[derive(Drop)]
+#[derive(Clone, Copy)]
 pub struct Report {
     pub number: u32,
     pub rule: u32,

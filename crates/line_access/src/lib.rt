@@ -1,5 +1,7 @@
 // What user and supervisor accesses share: whether the value fits, the alignment, an access to a line, hit or miss, and one
 // past the cache.
+#![tactic(auto)]
+
 ghost use Rattle.std.specs.Prelude.{◌≡◌, ◌+◌, ◌*◌, ◌/◌, ◌≤◌, ◌<◌, length};
 ghost use Rattle.address.specs.Layout.{line_bytes, page_lines};
 ghost use Rattle.board.specs.Answers.{mark_of};

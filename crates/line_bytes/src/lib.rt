@@ -1,4 +1,6 @@
 // Bytes: numbers in them, the most significant byte first, lines of sixteen, and frames filled with zeros.
+#![tactic(auto)]
+
 ghost use Rattle.std.specs.Prelude.{◌≡◌, ◌+◌, ◌*◌, ◌/◌, ◌≤◌, ◌<◌, length, get_or};
 ghost use Rattle.address.specs.Layout.{page_bytes, line_bytes};
 ghost use Rattle.line_bytes.specs.Bytes.{number, stored, line_of, with_line, zeros, zeroed_frame};

@@ -1,4 +1,6 @@
 // 01, "Calls": flush all, and look with its number.
+#![tactic(auto)]
+
 ghost use Rattle.std.specs.Prelude.{◌≡◌, ◌*◌, ◌<◌};
 ghost use Rattle.address.specs.Layout.{page_lines};
 ghost use Rattle.board.specs.declared.Pending.{Pending};

@@ -1,5 +1,7 @@
 // 01, "The board": a line's record, its place, and the record that holds a name or a physical line; the record that a new line
 // takes, and the uses of records (CR 4).
+#![tactic(auto)]
+
 ghost use Rattle.std.specs.Prelude.{◌≡◌, cond, ◌+◌, ◌*◌, ◌%◌, ◌≤◌, ◌<◌, ◌^◌, length};
 ghost use Rattle.std.specs.Int.Count.{ones};
 ghost use Rattle.board.specs.Searches.{first as lowest};
@@ -12,7 +14,7 @@ ghost use Rattle.lines.specs.Premises.{Lined, has_name, first_or};
 use board::{Found, PAGE_LINES, RECORD_WORDS, SET_LINES, Shape};
 
 // A line's record.
-#[derive(Drop)]
+#[derive(Clone, Copy)]
 pub struct Line {
     pub valid: bool,
     pub name: u64,

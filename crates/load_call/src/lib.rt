@@ -1,4 +1,6 @@
 // 01, "Calls": load-and-map.
+#![tactic(auto)]
+
 ghost use Rattle.std.specs.Prelude.{◌≡◌, ◌*◌, ◌≤◌, ◌<◌, length};
 ghost use Rattle.address.specs.Layout.{page_lines};
 ghost use Rattle.board.specs.Shapes.{max_frames, matrices_of};
@@ -13,7 +15,7 @@ use board::{Found, PAGE_LINES, Pending, Shape};
 use tag_calls::Tagged;
 
 // What load-and-map goes on with: the page's permission, if no number refuses it.
-#[derive(Drop)]
+#[derive(Clone, Copy)]
 enum Load {
     Refuse(u32),
     Fill(bool),

@@ -1,4 +1,6 @@
 // The entries of a log: kinds, their fields, what a field may be at most; an entry number by number (CR 1; CR 9: move).
+#![tactic(auto)]
+
 ghost use Rattle.std.specs.Prelude.{◌≡◌, suc, ◌-◌, ◌^◌, ◌≤◌, ◌<◌, cond, eqb, [], ◌∷◌, ◌++◌, length, take, get_or};
 ghost use Rattle.log_entries.specs.Entries.{fields_of, fields_by_kind, none, most, number_in, five_of, words_of};
 ghost use Rattle.log_entries.specs.Enters.{code_of, entered_of, EnteredFits};
@@ -94,7 +96,7 @@ const ANY_MOST: u64 = u64::MAX;
 pub const WORD_MOST: u64 = 4294967295;
 
 // An entry by its words.
-#[derive(Drop)]
+#[derive(Clone, Copy)]
 pub struct Entry {
     pub kind: u64,
     pub first: u64,
@@ -105,7 +107,7 @@ pub struct Entry {
 }
 
 // What a number makes of an entry: it grows, it is whole, or the number is refused (why).
-#[derive(Drop)]
+#[derive(Clone, Copy)]
 pub enum Entered {
     Growing(Entry),
     Whole(Entry),

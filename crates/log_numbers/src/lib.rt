@@ -1,4 +1,6 @@
 // The numbers of a log: groups of seven bits, low group first, the top bit set on all but the last (CR 1).
+#![tactic(auto)]
+
 ghost use Rattle.std.specs.Prelude.{◌≡◌, ◌+◌, ◌≤◌, ◌<◌, ◌^◌, length};
 ghost use Rattle.board.specs.Lists.{splice};
 ghost use Rattle.log_numbers.specs.Numbers.{group_size, groups_before, groups_of, take_byte};
@@ -27,7 +29,7 @@ const GROUP_BITS: u64 = 7;
 pub const GROUPS_BEFORE: u64 = 9;
 
 // What a byte makes of a number: one more group (what the groups are worth then), the last one (the number), or it is refused (why).
-#[derive(Drop)]
+#[derive(Clone, Copy)]
 pub enum Taken {
     More(u64),
     Whole(u64),

@@ -1,5 +1,7 @@
 // A user access whose numbers lie whole in a piece of a log, read at once. Whatever isn't plain is left to the reader that goes byte
 // by byte.
+#![tactic(auto)]
+
 ghost use Rattle.std.specs.Prelude.{◌≡◌, ◌+◌, ◌≤◌, length};
 ghost use Rattle.log_quick.specs.Quick.{NumberAt, Ended, UserIsAt};
 
@@ -7,14 +9,14 @@ use log_entries::{USER_ACCESS, WORD_MOST, most_value};
 use log_numbers::GROUP;
 
 // A number, and how many bytes it has; 0 bytes if it isn't plain.
-#[derive(Drop)]
+#[derive(Clone, Copy)]
 struct Number {
     value: u64,
     count: usize,
 }
 
 // A user access, and how many bytes it has; 0 bytes if it isn't plain.
-#[derive(Drop)]
+#[derive(Clone, Copy)]
 pub struct UserAt {
     pub process: u64,
     pub store: u64,

@@ -1,4 +1,6 @@
 // Reads a log in pieces, cut anywhere (CR 1). A reader is a few words by value.
+#![tactic(auto)]
+
 ghost use Rattle.std.specs.Prelude.{◌≡◌, ◌+◌, ◌*◌, ◌/◌, ◌≤◌, ◌<◌, cond, [], ◌∷◌, leb, length, take, drop};
 ghost use Rattle.board.specs.Lists.{splice};
 ghost use Rattle.log_entries.specs.Entries.{entry_words, fields_of, number_in, words_of, six_of};
@@ -12,7 +14,7 @@ use log_quick::USER_BYTES;
 
 // Where a reader stands: the bytes taken; the groups of the number that is being read, and what they are worth; the entry that is
 // being read, and how many of its numbers are there; why the log was refused, or 0.
-#[derive(Drop)]
+#[derive(Clone, Copy)]
 pub struct Reader {
     pub at: u64,
     pub groups: u64,
@@ -23,14 +25,14 @@ pub struct Reader {
 }
 
 // A reader after a byte, and whether that made its entry whole.
-#[derive(Drop)]
+#[derive(Clone, Copy)]
 pub struct Stepped {
     pub reader: Reader,
     pub whole: bool,
 }
 
 // A reader after a piece, and how many entries it gave.
-#[derive(Drop)]
+#[derive(Clone, Copy)]
 pub struct Progress {
     pub reader: Reader,
     pub given: usize,
@@ -192,7 +194,7 @@ fn put_step(s: Stepped, entries: &mut [u64], given: usize) -> usize
 }
 
 // A reader on its way through a piece: what it has taken of it, and how many entries it gave.
-#[derive(Drop)]
+#[derive(Clone, Copy)]
 struct Turn {
     reader: Reader,
     from: usize,

@@ -1,4 +1,6 @@
 // Writes an entry of a log (CR 1).
+#![tactic(auto)]
+
 ghost use Rattle.std.specs.Prelude.{◌≡◌, ◌+◌, ◌<◌, ◌≤◌, [], length, take};
 ghost use Rattle.board.specs.Lists.{splice};
 ghost use Rattle.log_numbers.specs.Numbers.{bytes_of};
@@ -12,7 +14,7 @@ use log_numbers::{FIELD, KIND, MISFIT, NONE, put_number};
 pub const ENTRY_BYTES: usize = 60;
 
 // Why an entry is refused, and the field that is wrong; or 0, and how many bytes were written.
-#[derive(Drop)]
+#[derive(Clone, Copy)]
 pub struct Wrote {
     pub reason: u64,
     pub amount: usize,

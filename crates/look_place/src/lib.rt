@@ -1,4 +1,6 @@
 // Look for C and Rust: where the line's current bytes stand in the caller's own buffers, as one number.
+#![tactic(auto)]
+
 ghost use Rattle.std.specs.Prelude.{◌≡◌, ◌*◌, ◌<◌};
 ghost use Rattle.address.specs.Layout.{page_lines};
 ghost use Rattle.board.specs.declared.Pending.{Pending};

@@ -1,5 +1,7 @@
 // Runs look on the session's board (F 4, U 1, L 2, P 2) and writes, for each look, the line, its number, and how long the part is that
 // look gives, with its bytes. Physical line 256 is the first line of the page, and its place is 0.
+#![tactic(auto)]
+
 use address::Effective;
 use board::{Pending, Shape};
 use libc::STDOUT_FILENO;

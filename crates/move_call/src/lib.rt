@@ -1,4 +1,6 @@
 // CR 9: move, which hands a page over: its frame, with its bytes, gets another page.
+#![tactic(auto)]
+
 ghost use Rattle.std.specs.Prelude.{◌≡◌};
 ghost use Rattle.board.specs.declared.Pending.{Pending};
 ghost use Rattle.machine.specs.Clauses.{sets_before, sets_after, Move};

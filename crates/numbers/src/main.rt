@@ -1,4 +1,6 @@
 // Runs the numbers of 01's "Numbers to check" that are to be run, the counts of lines and processes by CR 7, and writes the answers.
+#![tactic(auto)]
+
 ghost use Rattle.std.specs.Prelude.{◌≤◌, ◌<◌, ◌^◌};
 
 use address::Effective;

@@ -1,5 +1,7 @@
 // The calls for C and Rust, all but user access and lists of it: numbers and slices go in, and the answer comes back as one
 // number. A flag is a number, and any but 0 says yes. No call asks anything of the numbers or of the buffers' lengths.
+#![tactic(auto)]
+
 ghost use Rattle.address.specs.Addresses.{global};
 ghost use Rattle.board.specs.Lists.{is_yes};
 ghost use Rattle.board.specs.declared.Pending.{Pending};

@@ -1,5 +1,7 @@
 // The checker and the repair of a dumped board for C and Rust (CR 13): numbers and slices go in, and the report comes back as one number.
 // Neither asks anything of the numbers or of the buffers' lengths.
+#![tactic(auto)]
+
 ghost use Rattle.std.specs.Prelude.{◌≡◌};
 ghost use Rattle.board.specs.Shapes.{one_line};
 ghost use Rattle.board.specs.declared.Pending.{Pending};

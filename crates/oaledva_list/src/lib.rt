@@ -1,5 +1,7 @@
 // A list of user accesses for C and Rust, alone in its piece of the library: beside a second function over the same code the
 // compiler would not inline it.
+#![tactic(auto)]
+
 ghost use Rattle.board.specs.Shapes.{one_line};
 ghost use Rattle.machine.specs.Lists.{answered};
 ghost use Rattle.machine.specs.Clauses.{before, after, UserAccesses};

@@ -1,4 +1,6 @@
 // A log's reader and writer for C and Rust. A reader is eleven words, an entry six.
+#![tactic(auto)]
+
 ghost use Rattle.std.specs.Prelude.{◌≡◌, cond, ◌+◌, ◌≤◌, ltb, length};
 ghost use Rattle.board.specs.Lists.{is_yes};
 ghost use Rattle.log_reader.specs.Readers.{state_of};

@@ -1,5 +1,7 @@
 // The calls of the edition with sets of four (CR 4) for C and Rust, all but user access and lists of it, as `oaledva` has those of
 // 01's: the sets' matrices come after memory.
+#![tactic(auto)]
+
 ghost use Rattle.address.specs.Addresses.{global};
 ghost use Rattle.board.specs.Lists.{is_yes};
 ghost use Rattle.board.specs.declared.Pending.{Pending};

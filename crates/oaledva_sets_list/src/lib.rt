@@ -1,5 +1,7 @@
 // A list of user accesses of the edition with sets of four (CR 4) for C and Rust, alone in its piece of the library: beside a
 // second function over the same code the compiler would not inline it.
+#![tactic(auto)]
+
 ghost use Rattle.board.specs.Shapes.{four_lines};
 ghost use Rattle.machine.specs.Lists.{answered};
 ghost use Rattle.machine.specs.Clauses.{sets_before, sets_after, UserAccesses};

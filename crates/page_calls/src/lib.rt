@@ -1,4 +1,6 @@
 // 01, "Calls": unmap and protect.
+#![tactic(auto)]
+
 ghost use Rattle.std.specs.Prelude.{◌≡◌};
 ghost use Rattle.board.specs.declared.Pending.{Pending};
 ghost use Rattle.machine.specs.Clauses.{sets_before, sets_after, Unmap, Protect};
@@ -7,7 +9,7 @@ ghost use Rattle.page_calls.specs.Checks.{page_frame};
 use board::{Answer, Found, Shape, numbered};
 
 // What unmap, protect and move go on with: the page's frame, if no number stops them.
-#[derive(Drop)]
+#[derive(Clone, Copy)]
 pub enum Frame {
     Stop(u32),
     On(usize),

@@ -1,4 +1,6 @@
 // 01, "The board": the frame words, and the page map that they make.
+#![tactic(auto)]
+
 ghost use Rattle.std.specs.Prelude.{◌≡◌, true, ◌+◌, ◌/◌, ◌≤◌, ◌<◌, ◌^◌, length};
 ghost use Rattle.address.specs.Addresses.{name_of};
 ghost use Rattle.board.specs.Shapes.{max_frames};

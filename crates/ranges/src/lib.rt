@@ -1,4 +1,6 @@
 // Ranges of line names, and the places where lines named in them can stand.
+#![tactic(auto)]
+
 ghost use Rattle.std.specs.Prelude.{◌≡◌, ◌+◌, ◌%◌, ◌≤◌, ◌<◌, cond, leb, ltb};
 ghost use Rattle.address.specs.Layout.{page_end};
 ghost use Rattle.pages.specs.Pages.{direct_page};
@@ -11,14 +13,14 @@ ghost use Rattle.ranges.specs.declared.Names.TheVariants.{One};
 use address::PAGE_NAMES;
 
 // A range of names: `count` of them, from `first` on.
-#[derive(Drop)]
+#[derive(Clone, Copy)]
 pub struct Range {
     pub first: u64,
     pub count: u64,
 }
 
 // Names: those of one range, those of two, or all.
-#[derive(Drop)]
+#[derive(Clone, Copy)]
 pub enum Names {
     One(Range),
     Two(Range, Range),
@@ -26,7 +28,7 @@ pub enum Names {
 }
 
 // Places in a row, from `start` up to `end`, which is not one of them.
-#[derive(Drop)]
+#[derive(Clone, Copy)]
 pub struct Run {
     pub start: usize,
     pub end: usize,

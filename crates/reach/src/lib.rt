@@ -1,4 +1,6 @@
 // How a line is reached: by the record that holds it, else where its name maps to.
+#![tactic(auto)]
+
 ghost use Rattle.std.specs.Prelude.{◌≡◌, ◌*◌, length};
 ghost use Rattle.address.specs.Addresses.{name_of};
 ghost use Rattle.lines.specs.Premises.{Lined};
@@ -9,7 +11,7 @@ use board::{Found, Home, Shape};
 
 // How a line is reached: by the record that holds it, by its physical line, or not at all.
 // The bool is the permission to write.
-#[derive(Drop)]
+#[derive(Clone, Copy)]
 pub enum Way {
     Held(usize, bool),
     InMemory(usize, bool),

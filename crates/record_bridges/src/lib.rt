@@ -1,5 +1,7 @@
 // Protect and flush all over a lent slice, on two lines by value: each puts the lines into a local, calls through a slice of it,
 // and gives back the answer and what stands there. Whoever calls one needs no walk.
+#![tactic(auto)]
+
 ghost use Rattle.record_steps.specs.Lent.{lent_board};
 ghost use Rattle.record_steps.specs.Clauses.{ProtectLent, FlushLent};
 
@@ -7,7 +9,7 @@ use board::{Answer, Shape};
 use lines::Line;
 
 // What a call on two lines gives: the answer, and the lines after it.
-#[derive(Drop)]
+#[derive(Clone, Copy)]
 pub struct TwoLines {
     pub answer: Answer,
     pub lines: [Line; 2],

@@ -1,4 +1,6 @@
 // Protect and flush all over line records: what they decide before the lines, and one line record by value.
+#![tactic(auto)]
+
 ghost use Rattle.std.specs.Prelude.{◌≡◌, ◌*◌, ◌<◌, ◌^◌, eqb, length};
 ghost use Rattle.board.specs.Shapes.{record_words};
 ghost use Rattle.lines.specs.Premises.{Lined};

@@ -1,5 +1,7 @@
 // Line records as a lent slice of structs: protect and flush all decide by covered functions and walk the slice, and each line
 // goes by value through a function that says what happens to one line.
+#![tactic(auto)]
+
 ghost use Rattle.record_steps.specs.Clauses.{lent_before, lent_after, ProtectLent, FlushLent};
 
 use board::{Answer, Shape};

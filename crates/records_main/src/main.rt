@@ -1,6 +1,8 @@
 // Runs protect and flush all over two line records (F 1, U 0, P 1, L 2), every number of theirs, and writes a row for each call:
 // the answer, the two lines, and the frame word (protect) or two bytes of memory (flush all) after it.
 // Line 0's place is 0, line 1's is 1; memory has physical lines 0 to 255; the page 0x200000 is mapped to frame 0, writable.
+#![tactic(auto)]
+
 ghost use Rattle.std.specs.Prelude.{◌≤◌};
 
 use board::{MAX_FRAMES, MAX_LINES, MAX_PROCESSES, PROCESS_SLOTS, Shape};
@@ -32,7 +34,7 @@ const OVER_SLOTS: usize = PROCESS_SLOTS * OVER_PROCESSES;
 const ROWS: u64 = 18;
 
 // What a call is given: the numbers of the board, and how much of each buffer.
-#[derive(Drop)]
+#[derive(Clone, Copy)]
 pub struct Sizes {
     pub shape: Shape,
     pub slots: usize,

@@ -1,4 +1,6 @@
 // The repair of a dumped board (CR 13): it writes nothing to memory and only drops lines.
+#![tactic(auto)]
+
 ghost use Rattle.std.specs.Prelude.{◌≡◌, not, ◌&&◌, ◌+◌, ◌*◌, ◌≤◌, length};
 ghost use Rattle.board.specs.Lists.{bit};
 ghost use Rattle.board.specs.declared.Found.TheVariants.{Nothing};

@@ -1,5 +1,7 @@
 // Replays a log of calls (CR 1), from the file that its argument names or else from standard input. It writes a row for each call to
 // standard output, and to standard error why a log is refused.
+#![tactic(auto)]
+
 ghost use Rattle.std.specs.Prelude.{◌<◌, length};
 ghost use Rattle.log_reader.specs.Readers.{Readable};
 ghost use Rattle.replay.specs.Sizes.{Small, Largest, piece_bytes};
@@ -46,7 +48,7 @@ const WORD_END: u64 = WORD_MOST + 1;
 const LARGE: u64 = 7;
 
 // The log so far: where its reader stands, how many entries the last piece gave, and whether there is more to read.
-#[derive(Drop)]
+#[derive(Clone, Copy)]
 struct Input {
     reader: Reader,
     given: usize,
@@ -54,7 +56,7 @@ struct Input {
 }
 
 // The board so far: its numbers, its tag, and how many calls were made on it; or that the log's board is too large.
-#[derive(Drop)]
+#[derive(Clone, Copy)]
 struct Board {
     shape: Shape,
     tag: Pending,

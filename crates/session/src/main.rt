@@ -1,4 +1,6 @@
 // Runs 01's session (F 4, U 1, L 2, P 2) and writes its table.
+#![tactic(auto)]
+
 use address::Effective;
 use board::{Answer, Pending, Shape};
 use libc::STDOUT_FILENO;
@@ -14,7 +16,7 @@ const SEGMENT: u64 = 2048;
 const CALLS: u64 = 12;
 
 // A call of the session: a map with its write bit, the attach, the unmap, or a user access (process, access, address).
-#[derive(Drop)]
+#[derive(Clone, Copy)]
 pub enum Asked {
     Map(bool),
     Attach,

@@ -1,4 +1,6 @@
 // The matrix of a set of four (CR 4): who was used after whom. It goes by value; of all sets' matrices one is changed in place.
+#![tactic(auto)]
+
 ghost use Rattle.std.specs.Prelude.{◌≡◌, [], ◌+◌, ◌<◌, ◌≤◌, get_or, set, length};
 ghost use Rattle.sets.specs.Matrices.{used as used_of, one, ones_of, fewer, fewest};
 

@@ -1,4 +1,6 @@
 // 01, "Calls": attach and detach.
+#![tactic(auto)]
+
 ghost use Rattle.std.specs.Prelude.{◌≡◌, ◌&&◌};
 ghost use Rattle.address.specs.Addresses.{attachable};
 ghost use Rattle.board.specs.declared.Pending.{Pending};

@@ -1,4 +1,6 @@
 // 01, "The board": the slot words of the processes. One process's slots go by value into a change and come back.
+#![tactic(auto)]
+
 ghost use Rattle.std.specs.Prelude.{◌≡◌, ◌≤◌, ◌<◌, ◌^◌, length, set};
 ghost use Rattle.address.specs.Layout.{process_slots};
 ghost use Rattle.board.specs.Lists.{part, splice};
@@ -19,7 +21,7 @@ fn copy_words(dst: &mut [u32], src: &[u32])
 }
 
 // The slots of one process, by value.
-#[derive(Drop)]
+#[derive(Clone, Copy)]
 pub struct Slots {
     pub words: [u32; PROCESS_SLOTS],
 }

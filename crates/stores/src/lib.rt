@@ -1,4 +1,6 @@
 // The cache and memory as one: a line written back, filled, loaded from and stored to.
+#![tactic(auto)]
+
 ghost use Rattle.std.specs.Prelude.{◌≡◌, ◌+◌, ◌*◌, ◌≤◌, ◌<◌, length};
 ghost use Rattle.address.specs.Layout.{line_bytes, page_lines};
 ghost use Rattle.line_bytes.specs.Premises.{Width, InWord};
@@ -10,7 +12,7 @@ use board::{LINE_BYTES, Shape};
 use lines::Line;
 
 // A load or a store: its width in bytes, and the value to store.
-#[derive(Drop)]
+#[derive(Clone, Copy)]
 pub struct Access {
     pub store: bool,
     pub width: u32,

@@ -1,4 +1,6 @@
 // 01, "Calls": a supervisor's load or store, by global address.
+#![tactic(auto)]
+
 ghost use Rattle.std.specs.Prelude.{◌≡◌, length};
 ghost use Rattle.machine.specs.Clauses.{sets_before, sets_after, SupervisorAccess};
 ghost use Rattle.supervisor_access.specs.Plans.{region_plan, waits, supervisor_plan};
@@ -9,7 +11,7 @@ use stores::Access;
 
 // What is decided of a supervisor access before a line is touched: a refusal's number, the line's address, or the address in
 // memory.
-#[derive(Drop)]
+#[derive(Clone, Copy)]
 enum Plan {
     Stop(u32),
     Line(Global),

@@ -1,4 +1,6 @@
 // 01, "Calls": tag and drop tag, and what the three calls on the tag give.
+#![tactic(auto)]
+
 ghost use Rattle.std.specs.Prelude.{◌≡◌};
 ghost use Rattle.board.specs.Answers.{answer};
 ghost use Rattle.machine.specs.Boards.{no_tag};
@@ -8,7 +10,7 @@ use address::PAGE_NAMES;
 use board::{Answer, Pending, Shape, numbered};
 
 // What the three calls on the tag give: an answer, and the tag after.
-#[derive(Drop)]
+#[derive(Clone, Copy)]
 pub struct Tagged {
     pub answer: Answer,
     pub tag: Pending,

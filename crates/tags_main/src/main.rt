@@ -1,4 +1,6 @@
 // Runs tag, load-and-map and drop tag on a small board (F 4, U 1, L 2, P 2), and writes the answer and the tag after each.
+#![tactic(auto)]
+
 use board::{Pending, Shape};
 use libc::STDOUT_FILENO;
 use tag_calls::Tagged;
@@ -16,7 +18,7 @@ const LINE: usize = 256;
 const CALLS: u64 = 13;
 
 // A call: tag with a name, load-and-map with a physical line, the map, or drop tag on a board of so many frames.
-#[derive(Drop)]
+#[derive(Clone, Copy)]
 pub enum Asked {
     Tag(u64),
     Load(usize),

@@ -1,4 +1,6 @@
 // 01, "Calls": a user's load or store, by effective address.
+#![tactic(auto)]
+
 ghost use Rattle.std.specs.Prelude.{◌≡◌, true, ◌*◌, ◌≤◌, length};
 ghost use Rattle.address.specs.Layout.{process_slots};
 ghost use Rattle.board.specs.Shapes.{max_processes, fits_shape};
@@ -10,7 +12,7 @@ use board::{Answer, PROCESS_SLOTS, Pending, Shape, numbered};
 use stores::Access;
 
 // What is decided of a user access before a line is touched: a refusal's number, or the global address.
-#[derive(Drop)]
+#[derive(Clone, Copy)]
 enum Check {
     Refuse(u32),
     Go(Global),

@@ -1,4 +1,6 @@
 // A list of user accesses in one call: accesses in, answers out, each as one number.
+#![tactic(auto)]
+
 ghost use Rattle.std.specs.Prelude.{◌≡◌, true, ◌+◌, ◌*◌, ◌≤◌, eqb, length};
 ghost use Rattle.board.specs.Shapes.{fits_shape};
 ghost use Rattle.machine.specs.Boards.{outcome};
@@ -21,7 +23,7 @@ fn wide(x: u32) -> usize
 }
 
 // An access of a list.
-#[derive(Drop)]
+#[derive(Clone, Copy)]
 struct Ask {
     process: usize,
     access: Access,

@@ -1,5 +1,7 @@
 // What map, unmap, protect, move and flush all do to the lines: what is done, and to the lines of which names. Only the places of
 // those names are visited.
+#![tactic(auto)]
+
 ghost use Rattle.std.specs.Prelude.{◌≡◌, ◌-◌, ◌≤◌, ◌<◌};
 ghost use Rattle.address.specs.Layout.{page_end};
 ghost use Rattle.board.specs.Shapes.{max_frames};
@@ -15,7 +17,7 @@ use board::Shape;
 use ranges::{Names, Range, Run};
 
 // What is done to a line: it is dropped; or written back if it is changed, and dropped; or given a permission.
-#[derive(Drop)]
+#[derive(Clone, Copy)]
 pub enum Deed {
     Drop,
     Retire,
@@ -23,7 +25,7 @@ pub enum Deed {
 }
 
 // What is done, and to the lines of which names.
-#[derive(Drop)]
+#[derive(Clone, Copy)]
 pub struct Visit {
     pub deed: Deed,
     pub names: Names,

@@ -1,0 +1,19 @@
+-- `empty_in` looks from record to record of a set: the search from `i` on is the whole.
+use Prim.Native.Nat.{◌-◌}
+use mathlib.Core.Path.{◌∙◌, refl, sym}
+use Rattle.board.proofs.Searches.{first-start, first-end}
+use Rattle.lines.proofs.Holders.{empty-here, empty-more}
+use borrow.Author.Rules.{rules}
+use Rattle.lines.proofs.empty_in.Goals as goal
+
+pub loop-i-init : goal.loop-i-init
+loop-i-init c = first-start _ _ _ _ refl
+
+pub loop-i-preserved : goal.loop-i-preserved
+loop-i-preserved c = c.loop-i.invariant ∙ search (rules, empty-more)
+
+pub returns-else-holds : goal.returns-else-holds
+returns-else-holds c = sym (c.loop-i.invariant ∙ search (rules, empty-here))
+
+pub returns : goal.returns
+returns c = sym (c.loop-i.invariant ∙ search (rules, first-end))

@@ -1,0 +1,13 @@
+-- `empty_in` looks from record to record of a set: the search from `i` on is the whole.
+use Prim.Native.Nat.{◌-◌}
+use mathlib.Core.Path.{◌≡◌}
+use Rattle.board.specs.Shapes.{set_lines}
+use Rattle.board.specs.Searches.{first as lowest}
+use Rattle.lines.specs.Victims.{is_empty}
+use Rattle.lines.proofs.empty_in.Given as goal
+
+abbrev pub invariant-loop-i : goal.invariant-loop-i
+invariant-loop-i l = lowest (is_empty l.s l.records) l.first set_lines ≡ lowest (is_empty l.s l.records) l.i (l.end - l.i)
+
+abbrev pub decreases-loop-i : goal.decreases-loop-i
+decreases-loop-i l = l.end - l.i

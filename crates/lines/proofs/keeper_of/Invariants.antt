@@ -1,0 +1,12 @@
+-- `keeper_of` looks from record to record: the search from `i` on is the whole.
+use Prim.Native.Nat.{◌-◌}
+use mathlib.Core.Path.{◌≡◌}
+use Rattle.board.specs.Searches.{first}
+use Rattle.lines.specs.Holds.{keeps_line, keeper_of}
+use Rattle.lines.proofs.keeper_of.Given as goal
+
+abbrev pub invariant-loop-i : goal.invariant-loop-i
+invariant-loop-i l = keeper_of l.s l.records l.line ≡ first (keeps_line l.s l.records l.line) l.i (l.s.lines - l.i)
+
+abbrev pub decreases-loop-i : goal.decreases-loop-i
+decreases-loop-i l = l.lines - l.i

@@ -1,0 +1,22 @@
+-- `room_for` looks for the line in its set, then for the record that it takes.
+use Rattle.lines.proofs.Holders.{four-inside, first-room, room-held, room-new, room-held-one, room-new-one}
+use borrow.Author.Rules.{rules}
+use Rattle.lines.proofs.room_for.Goals as goal
+
+pub holder_in-requires : goal.holder_in-requires
+holder_in-requires c = search (rules, four-inside)
+
+pub returns-in-At : goal.returns-in-At
+returns-in-At c = search (rules, room-held)
+
+pub returns-in-Nothing : goal.returns-in-Nothing
+returns-in-Nothing c = search (rules, room-new)
+
+pub holds_name-requires : goal.holds_name-requires
+holds_name-requires c = search (rules, first-room)
+
+pub returns-then-holds_name : goal.returns-then-holds_name
+returns-then-holds_name c = search (rules, room-held-one)
+
+pub returns : goal.returns
+returns c = search (rules, room-new-one)

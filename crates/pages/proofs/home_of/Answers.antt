@@ -1,0 +1,20 @@
+-- `home_of` gives the home of an address: by its frame, which is inside memory, or under prefix 1.
+use native.Mathlib.Omega.{arith}
+use Rattle.pages.proofs.Frames.{mapped-inside, address-home-at, address-home-direct}
+use borrow.Author.Rules.{rules}
+use Rattle.pages.proofs.home_of.Goals as goal
+
+pub returns-in-At : goal.returns-in-At
+returns-in-At c = search (rules, address-home-at)
+
+pub returns-in-Nothing : goal.returns-in-Nothing
+returns-in-Nothing c = search (rules, address-home-direct)
+
+pub offset_bounds-words-f : goal.offset_bounds-words-f
+offset_bounds-words-f c = omega (arith, mapped-inside _ _ _ _ _ c.mapped_to.ensures c.in-At.is)
+
+pub bounds-words-f : goal.bounds-words-f
+bounds-words-f c = omega (arith, mapped-inside _ _ _ _ _ c.mapped_to.ensures c.in-At.is)
+
+pub in_frame-requires : goal.in_frame-requires
+in_frame-requires c = omega (arith, mapped-inside _ _ _ _ _ c.mapped_to.ensures c.in-At.is)

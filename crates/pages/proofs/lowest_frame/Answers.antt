@@ -1,0 +1,41 @@
+-- `lowest_frame` finds the lowest frame: what the search from `u` finds, the search from `f` finds.
+use Prim.Native.Nat.{◌-◌}
+use mathlib.Core.Path.{◌∙◌, refl, sym}
+use native.Mathlib.Omega.{arith}
+use Rattle.pages.specs.Pages.{lowest_frame}
+use Rattle.pages.proofs.Frames.{low-1, low-3, low-others, low-next, low_end, low-beyond}
+use borrow.Author.Rules.{rules}
+use Rattle.pages.proofs.lowest_frame.Goals as goal
+
+pub returns-then-words-u : goal.returns-then-words-u
+unfolding lowest_frame
+returns-then-words-u c = search (rules, low-beyond)
+
+pub loop-f-init : goal.loop-f-init
+unfolding lowest_frame
+loop-f-init c = (search rules, refl)
+
+pub loop-f-2-init : goal.loop-f-2-init
+unfolding lowest_frame
+loop-f-2-init c = c.loop-f.invariant.1
+
+pub returns-then-w-page : goal.returns-then-w-page
+unfolding lowest_frame
+returns-then-w-page c = sym (c.loop-f-2.invariant ∙ search (rules, low-1))
+
+pub returns-then-w-page-2 : goal.returns-then-w-page-2
+unfolding lowest_frame
+returns-then-w-page-2 c = sym (c.loop-f-2.invariant ∙ search (rules, low-3))
+
+pub loop-f-2-preserved : goal.loop-f-2-preserved
+unfolding lowest_frame
+loop-f-2-preserved c = c.loop-f-2.invariant ∙ search (rules, low-next)
+
+pub returns : goal.returns
+unfolding lowest_frame
+returns c = sym (c.loop-f-2.invariant ∙ search (rules, low_end))
+
+pub loop-f-preserved : goal.loop-f-preserved
+loop-f-preserved c =
+    let k = c.clear_of.ensures c.loop-f-test.true in
+    (omega (arith, k.0), c.loop-f.invariant.1 ∙ low-others _ _ 8 _ k.0 k.1)

@@ -1,0 +1,7 @@
+-- `attach_slot` is one store: the slots taken out, changed in one place and put back.
+use Rattle.board.proofs.Lists.{part-put}
+use borrow.Author.Rules.{rules}
+use Rattle.slots.proofs.attach_slot.Goals as goal
+
+pub returns : goal.returns
+returns c = search (rules, part-put)
