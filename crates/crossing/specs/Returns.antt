@@ -1,24 +1,14 @@
--- The contracts of the calls for C and Rust are the calls' own (machine's Contracts), of the answer that is read off the returned number.
+-- The contracts of the calls for C and Rust are the calls' own (machine's Clauses), of the answer that is read off the returned number.
 -- No second return meets one (of a list: no second answers' buffer either), and a call that leaves the tag leaves the caller's two words.
 use Rattle.std.specs.Prelude.{ℕ, ◌≡◌, List, []}
-use Rattle.std.specs.Borrow.{Bor}
-use denote.Triple.Both.{Both}
 use Rattle.board.specs.Lists.{is_yes}
 use Rattle.board.specs.declared.Answer.{Answer}
 use Rattle.board.specs.declared.Pending.{Pending}
 use Rattle.lines.specs.Victims.{Uses}
-use Rattle.stores.specs.Lent.{Buffer}
 use Rattle.machine.specs.Boards.{Board, sets_board}
 use Rattle.machine.specs.Lists.{Answered, answered}
-use Rattle.machine.specs.Clauses.{LentUses, Determines}
+use Rattle.machine.specs.Clauses.{Determines}
 use Rattle.crossing.specs.Packing.{unpacked, unpacked_all, word_after, tag_of}
-
--- a word that a call is lent, and the tag that the caller's two words are before the call
-abbrev pub Word : Type 0
-Word = Both (Bor ℕ) (Bor ℕ)
-
-abbrev pub tag_before : Word → Word → Pending
-tag_before set name = tag_of set.entry.now name.entry.now
 
 -- the flag's word after a call: the caller's own while it says the same, else 1 or 0
 abbrev pub FlagKept : ℕ → ℕ → Type 0
@@ -39,25 +29,25 @@ pub record Returned : Type 0 where
 abbrev pub board_of : Returned → Board
 board_of x = sets_board x.slots x.words x.records x.cache x.memory x.uses (tag_of x.set x.name)
 
-abbrev pub returned_with : Uses → ℕ → Buffer → Buffer → Buffer → Buffer → Buffer → Word → Word → Returned
+abbrev pub returned_with : Uses → ℕ → List ℕ → List ℕ → List ℕ → List ℕ → List ℕ → ℕ → ℕ → Returned
 returned_with uses r slots words records cache memory set name = record {
   result = r;
-  slots = slots.exit.now;
-  words = words.exit.now;
-  records = records.exit.now;
-  cache = cache.exit.now;
-  memory = memory.exit.now;
+  slots = slots;
+  words = words;
+  records = records;
+  cache = cache;
+  memory = memory;
   uses = uses;
-  set = set.exit.now;
-  name = name.exit.now;
+  set = set;
+  name = name;
 }
 
 -- in 01's edition, which has no matrices, and with the matrices lent
-abbrev pub returned : ℕ → Buffer → Buffer → Buffer → Buffer → Buffer → Word → Word → Returned
+abbrev pub returned : ℕ → List ℕ → List ℕ → List ℕ → List ℕ → List ℕ → ℕ → ℕ → Returned
 returned = returned_with []
 
-abbrev pub sets_returned : ℕ → Buffer → Buffer → Buffer → Buffer → Buffer → LentUses → Word → Word → Returned
-sets_returned r slots words records cache memory uses set name = returned_with uses.exit.now r slots words records cache memory set name
+abbrev pub sets_returned : ℕ → List ℕ → List ℕ → List ℕ → List ℕ → List ℕ → Uses → ℕ → ℕ → Returned
+sets_returned r slots words records cache memory uses set name = returned_with uses r slots words records cache memory set name
 
 -- it meets the contract of a call that may change the tag: the call's own, and the word of the flag, which was `before`
 abbrev pub Meets : (Answer → Board → Type 0) → ℕ → Returned → Type 0

@@ -81,31 +81,31 @@ module _ (s : Shape) (b c : Board) (keys links flags : Buffer) (r : Report) (y :
   enough = Enough s keys links flags
 
   abbrev refusal : Repaired
-  refusal = repair_outcome too_short b.store flags.entry.now
+  refusal = repair_outcome too_short b.store flags.before
 
   abbrev repairing : Repaired
-  repairing = repair_board s b flags.entry.now
+  repairing = repair_board s b flags.before
 
-  outcome : repair_outcome r c.store flags.exit.now ≡ cond (fits_board s b && not enough) refusal repairing
+  outcome : repair_outcome r c.store flags.after ≡ cond (fits_board s b && not enough) refusal repairing
   unfolding repair_call
   outcome = y.outcome_is
 
   -- the outcome taken apart
-  parts : (o : Repaired) → repair_outcome r c.store flags.exit.now ≡ o → (r ≡ o.report) × (c ≡ with_store b o.store) × (flags.exit.now ≡ o.flags)
+  parts : (o : Repaired) → repair_outcome r c.store flags.after ≡ o → (r ≡ o.report) × (c ≡ with_store b o.store) × (flags.after ≡ o.flags)
   parts o e =
       let x : c.store ≡ o.store = ap (λ (o : Repaired). o.store) e in
       (ap (λ (o : Repaired). o.report) e, y.rest_kept ∙ ap (with_store b) x, ap (λ (o : Repaired). o.flags) e)
 
-  repair-says : r.number ≡ 0 → (r ≡ repairing.report) × (c ≡ with_store b repairing.store) × (flags.exit.now ≡ repairing.flags)
+  repair-says : r.number ≡ 0 → (r ≡ repairing.report) × (c ≡ with_store b repairing.store) × (flags.after ≡ repairing.flags)
   repair-says z = go (fits_board s b && not enough) refl
     where
-      go : (t : Bool) → (fits_board s b && not enough) ≡ t → (r ≡ repairing.report) × (c ≡ with_store b repairing.store) × (flags.exit.now ≡ repairing.flags)
+      go : (t : Bool) → (fits_board s b && not enough) ≡ t → (r ≡ repairing.report) × (c ≡ with_store b repairing.store) × (flags.after ≡ repairing.flags)
       go true t = absurd (let w : r.number ≡ 1 = ap (λ (q : Report). q.number) (parts refusal (outcome ∙ rw t)).0 in omega arith)
       go false t = parts repairing (outcome ∙ rw t)
 
   repair-answered : (fits_board s b ≡ false) ⊎ (enough ≡ true) → r.number ≡ 0
   repair-answered h =
-      ap (λ (q : Report). q.number) (parts repairing (outcome ∙ rw (either (fits_board s b) enough h))).0 ∙ report-number s b flags.entry.now
+      ap (λ (q : Report). q.number) (parts repairing (outcome ∙ rw (either (fits_board s b) enough h))).0 ∙ report-number s b flags.before
 
   repair-short : fits_board s b ≡ true → enough ≡ false → (r ≡ too_short) × (c ≡ b) × Kept flags × Kept keys × Kept links
   repair-short f n =
@@ -119,7 +119,7 @@ repairs-alike = record {
   answered = repair-answered;
   short = repair-short;
   one_outcome = λ s b c c' keys links keys' links' flags flags' r r' k l f y z.
-      let o : repair_outcome r c.store flags.exit.now ≡ repair_outcome r' c'.store flags'.exit.now = y.outcome_is ∙ rw (k, l, f) (sym z.outcome_is) in
+      let o : repair_outcome r c.store flags.after ≡ repair_outcome r' c'.store flags'.after = y.outcome_is ∙ rw (k, l, f) (sym z.outcome_is) in
       let x : c.store ≡ c'.store = ap (λ (o : Repaired). o.store) o in
       (ap (λ (o : Repaired). o.report) o, y.rest_kept ∙ ap (with_store b) x ∙ sym z.rest_kept, ap (λ (o : Repaired). o.flags) o);
 }

@@ -19,13 +19,13 @@ use Rattle.repairs.specs.Clauses.{Repair}
 
 -- as many elements
 abbrev pub SameLength : Buffer → Buffer → Type 0
-SameLength k l = length k.entry.now ≡ length l.entry.now
+SameLength k l = length k.before ≡ length l.before
 
 -- ---- a check
 
 -- enough scratch
 abbrev pub Room : Shape → Buffer → Buffer → Bool
-Room s keys links = room_for s (length keys.entry.now) (length links.entry.now)
+Room s keys links = room_for s (length keys.before) (length links.before)
 
 pub record ChecksAlike : Type 0 where
   -- number 0 is the checker's answer
@@ -44,21 +44,21 @@ pub record ChecksAlike : Type 0 where
 
 -- enough scratch, and a flag for each line
 abbrev pub Enough : Shape → Buffer → Buffer → Buffer → Bool
-Enough s keys links flags = Room s keys links && eqb (length flags.entry.now) s.lines
+Enough s keys links flags = Room s keys links && eqb (length flags.before) s.lines
 
 pub record RepairsAlike : Type 0 where
   -- number 0 is the repair: its report, its store and its flags; slots, words and tag stay
   pub says : (s : Shape) (b c : Board) (keys links flags : Buffer) (r : Report) → Repair s b keys links flags r c → r.number ≡ 0
-      → (r ≡ (repair_board s b flags.entry.now).report) × (c ≡ with_store b (repair_board s b flags.entry.now).store)
-      × (flags.exit.now ≡ (repair_board s b flags.entry.now).flags)
+      → (r ≡ (repair_board s b flags.before).report) × (c ≡ with_store b (repair_board s b flags.before).store)
+      × (flags.after ≡ (repair_board s b flags.before).flags)
   pub answered : (s : Shape) (b c : Board) (keys links flags : Buffer) (r : Report) → Repair s b keys links flags r c
       → (fits_board s b ≡ false) ⊎ (Enough s keys links flags ≡ true) → r.number ≡ 0
   pub short : (s : Shape) (b c : Board) (keys links flags : Buffer) (r : Report) → Repair s b keys links flags r c → fits_board s b ≡ true
       → Enough s keys links flags ≡ false → (r ≡ too_short) × (c ≡ b) × Kept flags × Kept keys × Kept links
   -- whatever stands in the scratch: the same report, the same board, the same flags
   pub one_outcome : (s : Shape) (b c c' : Board) (keys links keys' links' flags flags' : Buffer) (r r' : Report) → SameLength keys keys'
-      → SameLength links links' → flags.entry.now ≡ flags'.entry.now → Repair s b keys links flags r c → Repair s b keys' links' flags' r' c'
-      → (r ≡ r') × (c ≡ c') × (flags.exit.now ≡ flags'.exit.now)
+      → SameLength links links' → flags.before ≡ flags'.before → Repair s b keys links flags r c → Repair s b keys' links' flags' r' c'
+      → (r ≡ r') × (c ≡ c') × (flags.after ≡ flags'.after)
 
 -- ---- how often a search turns, in any tree of a board's keys, whatever its words and records
 

@@ -8,10 +8,11 @@ ghost use Rattle.board.specs.declared.Pending.{Pending};
 ghost use Rattle.pages.specs.Pages.{home_of};
 ghost use Rattle.stores.specs.Premises.{Sized};
 ghost use Rattle.stores.specs.Stores.{store as store_of};
-ghost use Rattle.machine.specs.Clauses.{before};
 ghost use Rattle.dump_pages.specs.Pages.{doubled_page};
 ghost use Rattle.dumps.specs.Checks.{report, too_short, from_rule2, from_rule3, from_rule4, room_for};
 ghost use Rattle.dumps.specs.Clauses.{Check};
+ghost use Rattle.machine.specs.Boards.{board};
+ghost use Rattle.stores.specs.Lent.{lent};
 
 use board::{Found, Shape};
 use dump_lines::{AT_HOME, EQUALS_MEMORY};
@@ -134,7 +135,7 @@ pub fn check(
     keys: &mut [u64],
     links: &mut [u64],
 ) -> Report
-    ensures { (tag : Pending) → Check s (before slots words records cache memory tag) keys links result }
+    ensures { (tag : Pending) → Check s (board slots.now words.now records.now cache.now memory.now tag) (lent keys.old keys.new) (lent links.old links.new) result }
 {
     if board::fits(
         s,

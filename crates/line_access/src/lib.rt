@@ -8,10 +8,10 @@ ghost use Rattle.board.specs.Answers.{mark_of};
 ghost use Rattle.board.specs.Shapes.{matrices_of};
 ghost use Rattle.line_bytes.specs.Premises.{Width, InWord};
 ghost use Rattle.stores.specs.Premises.{Sized};
-ghost use Rattle.stores.specs.Lent.{store_before, store_after};
 ghost use Rattle.machine.specs.Refusals.{too_large, aligned_to};
 ghost use Rattle.machine.specs.Accesses.{ended, touched, performed_on, memory_access};
 ghost use Rattle.line_access.specs.LineAccess.{refilled, line_access};
+ghost use Rattle.stores.specs.Stores.{store};
 
 use address::{Effective, Global, LINE_BYTES, Physical};
 use board::{Answer, Shape, UNCACHED, accessed, mark_of, numbered};
@@ -79,7 +79,7 @@ fn perform_on(
     back: bool,
 ) -> Answer
     requires { (2 * i + 2 ≤ length records.old) × (line_bytes * i + line_bytes ≤ length cache.old) × (offset < line_bytes) × InWord offset a.width × Width a.width }
-    ensures { ended result (store_after records cache memory) ≡ performed_on i offset a (mark_of held back) (store_before records cache memory) }
+    ensures { ended result (store records.new cache.new memory.now) ≡ performed_on i offset a (mark_of held back) (store records.old cache.old memory.now) }
 {
     let value = stores::perform(records, cache, i, offset, a);
     accessed(value, mark_of(held, back))
@@ -99,7 +99,7 @@ fn refill_access(
     a: Access,
 ) -> Answer
     requires { Sized s records.old cache.old memory.old × (length uses.old ≡ matrices_of s) × (line < page_lines * s.frames) × (offset < line_bytes) × InWord offset a.width × Width a.width }
-    ensures { touched (ended result (store_after records cache memory)) uses.new ≡ refilled s name line write offset a (store_before records cache memory) uses.old }
+    ensures { touched (ended result (store records.new cache.new memory.new)) uses.new ≡ refilled s name line write offset a (store records.old cache.old memory.old) uses.old }
 {
     let to = lines::victim_of(s, records, uses, name);
     lines::note_use(s, uses, to);
@@ -120,7 +120,7 @@ pub fn line_access(
     a: Access,
 ) -> Answer
     requires { Sized s records.old cache.old memory.old × (length uses.old ≡ matrices_of s) × (length words.now ≡ s.frames) × Width a.width × InWord g.0 a.width }
-    ensures { touched (ended result (store_after records cache memory)) uses.new ≡ line_access s words.now g user a (store_before records cache memory) uses.old }
+    ensures { touched (ended result (store records.new cache.new memory.new)) uses.new ≡ line_access s words.now g user a (store records.old cache.old memory.old) uses.old }
 {
     match reach::way_to(s, words, records, g) {
         Way::Missing => numbered(8),
@@ -154,7 +154,7 @@ pub fn memory_access(
     a: Access,
 ) -> Answer
     requires { (p.0 / 4 * 4 + 4 ≤ length memory.old) × InWord p.0 a.width × Width a.width }
-    ensures { ended result (store_after records cache memory) ≡ memory_access p a (store_before records cache memory) }
+    ensures { ended result (store records.now cache.now memory.new) ≡ memory_access p a (store records.now cache.now memory.old) }
 {
     let at = p.0 as usize;
     let width = a.width;

@@ -5,11 +5,11 @@ ghost use Rattle.std.specs.Prelude.{◌≡◌, ◌*◌, ◌<◌};
 ghost use Rattle.address.specs.Layout.{page_lines};
 ghost use Rattle.board.specs.declared.Pending.{Pending};
 ghost use Rattle.lines.specs.Holds.{keeper_of};
-ghost use Rattle.stores.specs.Stores.{current};
-ghost use Rattle.stores.specs.Lent.{store_before};
+ghost use Rattle.stores.specs.Stores.{current, store};
 ghost use Rattle.stores.specs.Premises.{Sized};
 ghost use Rattle.machine.specs.Looks.{start_by};
-ghost use Rattle.machine.specs.Clauses.{sets_before, sets_after, FlushAll, LookNumber, Look};
+ghost use Rattle.machine.specs.Clauses.{FlushAll, LookNumber, Look};
+ghost use Rattle.machine.specs.Boards.{sets_board};
 
 use board::{Answer, Found, LINE_BYTES, PAGE_LINES, Shape, numbered};
 
@@ -23,7 +23,7 @@ pub fn flush_all(
     memory: &mut [u8],
     uses: &[[[u8; 4]; 4]],
 ) -> Answer
-    ensures { (tag : Pending) → FlushAll s (sets_before slots words records cache memory uses tag) result (sets_after slots words records cache memory uses tag) }
+    ensures { (tag : Pending) → FlushAll s (sets_board slots.now words.now records.old cache.now memory.old uses.now tag) result (sets_board slots.now words.now records.new cache.now memory.new uses.now tag) }
 {
     if board::fits(
         s,
@@ -52,7 +52,7 @@ pub fn look_number(
     uses: &[[[u8; 4]; 4]],
     line: usize,
 ) -> u32
-    ensures { (tag : Pending) → LookNumber s (sets_before slots words records cache memory uses tag) line result }
+    ensures { (tag : Pending) → LookNumber s (sets_board slots.now words.now records.now cache.now memory.now uses.now tag) line result }
 {
     if board::fits(
         s,
@@ -81,7 +81,7 @@ fn current_part<'a>(
     line: usize,
 ) -> &'a [u8]
     requires { Sized s records.now cache.now memory.now × (line < page_lines * s.frames) }
-    ensures { (result.now ≡ current s (store_before records cache memory) line) × (result.ref_ptr ≡ start_by cache.entry.ref_ptr memory.entry.ref_ptr line (keeper_of s records.now line)) }
+    ensures { (result.now ≡ current s (store records.now cache.now memory.now) line) × (result.ref_ptr ≡ start_by cache.entry.ref_ptr memory.entry.ref_ptr line (keeper_of s records.now line)) }
 {
     match lines::keeper_of(s, records, line) {
         Found::At(i) => {
@@ -106,7 +106,7 @@ pub fn look<'a>(
     uses: &[[[u8; 4]; 4]],
     line: usize,
 ) -> &'a [u8]
-    ensures { (tag : Pending) → Look s (sets_before slots words records cache memory uses tag) line cache.entry memory.entry result }
+    ensures { (tag : Pending) → Look s (sets_board slots.now words.now records.now cache.now memory.now uses.now tag) line cache.entry memory.entry result }
 {
     if board::fits(
         s,

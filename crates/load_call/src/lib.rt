@@ -4,11 +4,12 @@
 ghost use Rattle.std.specs.Prelude.{◌≡◌, ◌*◌, ◌≤◌, ◌<◌, length};
 ghost use Rattle.address.specs.Layout.{page_lines};
 ghost use Rattle.board.specs.Shapes.{max_frames, matrices_of};
-ghost use Rattle.stores.specs.Lent.{store_before, store_after};
 ghost use Rattle.stores.specs.Premises.{Sized};
 ghost use Rattle.machine.specs.Calls.{loaded_with, loaded};
-ghost use Rattle.machine.specs.Clauses.{sets_before, sets_after, before, after, LoadAndMap};
+ghost use Rattle.machine.specs.Clauses.{LoadAndMap};
 ghost use Rattle.load_call.specs.Checks.{load_frame, load_check};
+ghost use Rattle.machine.specs.Boards.{board, sets_board};
+ghost use Rattle.stores.specs.Stores.{store};
 
 use address::PAGE_NAMES;
 use board::{Found, PAGE_LINES, Pending, Shape};
@@ -64,7 +65,7 @@ fn load_line(
     write: bool,
 )
     requires { Sized s records.old cache.old memory.old × (length uses.old ≡ matrices_of s) × (line < page_lines * s.frames) }
-    ensures { loaded_with (store_after records cache memory) uses.new ≡ loaded s name line write (store_before records cache memory) uses.old }
+    ensures { loaded_with (store records.new cache.new memory.new) uses.new ≡ loaded s name line write (store records.old cache.old memory.old) uses.old }
 {
     match lines::room_for(s, records, uses, name) {
         Found::Nothing => {}
@@ -87,7 +88,7 @@ pub fn load_and_map_with(
     pending: Pending,
     line: usize,
 ) -> Tagged
-    ensures { LoadAndMap s (sets_before slots words records cache memory uses pending) line result.answer (sets_after slots words records cache memory uses result.tag) }
+    ensures { LoadAndMap s (sets_board slots.now words.now records.old cache.old memory.old uses.old pending) line result.answer (sets_board slots.now words.now records.new cache.new memory.new uses.new result.tag) }
 {
     if board::fits(
         s,
@@ -121,7 +122,7 @@ pub fn load_and_map(
     pending: Pending,
     line: usize,
 ) -> Tagged
-    ensures { LoadAndMap s (before slots words records cache memory pending) line result.answer (after slots words records cache memory result.tag) }
+    ensures { LoadAndMap s (board slots.now words.now records.old cache.old memory.old pending) line result.answer (board slots.now words.now records.new cache.new memory.new result.tag) }
 {
     let mut none: [[[u8; 4]; 4]; 0] = [];
     load_and_map_with(

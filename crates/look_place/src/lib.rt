@@ -6,8 +6,8 @@ ghost use Rattle.address.specs.Layout.{page_lines};
 ghost use Rattle.board.specs.declared.Pending.{Pending};
 ghost use Rattle.lines.specs.Holds.{keeper_of};
 ghost use Rattle.stores.specs.Premises.{Sized};
-ghost use Rattle.machine.specs.Clauses.{sets_before};
 ghost use Rattle.look_place.specs.Lends.{place_by, LookPlace};
+ghost use Rattle.machine.specs.Boards.{sets_board};
 
 use board::{Found, LINE_BYTES, Shape};
 
@@ -38,7 +38,7 @@ pub fn place(
     uses: &[[[u8; 4]; 4]],
     line: usize,
 ) -> u64
-    ensures { (tag : Pending) → LookPlace s (sets_before slots words records cache memory uses tag) line result }
+    ensures { (tag : Pending) → LookPlace s (sets_board slots.now words.now records.now cache.now memory.now uses.now tag) line result }
 {
     if line_calls::look_number(s, slots, words, records, cache, memory, uses, line) == 0 {
         return place_of_line(s, records, cache, memory, line);

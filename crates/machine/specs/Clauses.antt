@@ -3,44 +3,16 @@
 -- Each takes the shape, the board before the call, what the caller gives, the answer r and the board c after the call.
 use Rattle.std.specs.Prelude.{ℕ, ◌≡◌, Bool, List}
 use Rattle.std.specs.Borrow.{Bor}
-use denote.Triple.Both.{Both}
 use Rattle.address.specs.declared.Effective.{Effective}
 use Rattle.address.specs.declared.Global.{Global}
 use Rattle.board.specs.declared.Shape.{Shape}
-use Rattle.board.specs.declared.Pending.{Pending}
 use Rattle.board.specs.declared.Answer.{Answer}
-use Rattle.lines.specs.Victims.{Uses}
-use Rattle.stores.specs.Lent.{Buffer}
 use Rattle.stores.specs.declared.Access.{Access}
-use Rattle.machine.specs.Boards.{Board, sets_board, board, outcome}
+use Rattle.machine.specs.Boards.{Board, outcome}
 use Rattle.machine.specs.Accesses.{user_access, supervisor_access}
 use Rattle.machine.specs.Lists.{Answered, listed, user_accesses}
 use Rattle.machine.specs.Calls as calls
 use Rattle.machine.specs.Looks.{look_number, look, look_start}
-
--- ---- the board as a call's buffers have it
-
--- lent matrices
-abbrev pub LentUses : Type 0
-LentUses = Both (Bor Uses) (Bor Uses)
-
--- the board that the buffers and a tag are before the call, and after it: of both editions
-abbrev pub sets_before : Buffer → Buffer → Buffer → Buffer → Buffer → LentUses → Pending → Board
-sets_before slots words records cache memory uses tag =
-    sets_board slots.entry.now words.entry.now records.entry.now cache.entry.now memory.entry.now uses.entry.now tag
-
-abbrev pub sets_after : Buffer → Buffer → Buffer → Buffer → Buffer → LentUses → Pending → Board
-sets_after slots words records cache memory uses tag =
-    sets_board slots.exit.now words.exit.now records.exit.now cache.exit.now memory.exit.now uses.exit.now tag
-
--- those of 01's edition, which has no matrices
-abbrev pub before : Buffer → Buffer → Buffer → Buffer → Buffer → Pending → Board
-before slots words records cache memory tag =
-    board slots.entry.now words.entry.now records.entry.now cache.entry.now memory.entry.now tag
-
-abbrev pub after : Buffer → Buffer → Buffer → Buffer → Buffer → Pending → Board
-after slots words records cache memory tag =
-    board slots.exit.now words.exit.now records.exit.now cache.exit.now memory.exit.now tag
 
 -- ---- the calls
 

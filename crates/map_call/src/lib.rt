@@ -4,8 +4,9 @@
 ghost use Rattle.std.specs.Prelude.{◌≡◌, length};
 ghost use Rattle.board.specs.declared.Pending.{Pending};
 ghost use Rattle.machine.specs.Refusals.{is_frame};
-ghost use Rattle.machine.specs.Clauses.{sets_before, sets_after, Map};
+ghost use Rattle.machine.specs.Clauses.{Map};
 ghost use Rattle.map_call.specs.Numbers.{map_number};
+ghost use Rattle.machine.specs.Boards.{sets_board};
 
 use board::{Answer, Found, Shape, numbered};
 
@@ -47,7 +48,7 @@ pub fn map(
     frame: usize,
     write: bool,
 ) -> Answer
-    ensures { (tag : Pending) → Map s (sets_before slots words records cache memory uses tag) page frame write result (sets_after slots words records cache memory uses tag) }
+    ensures { (tag : Pending) → Map s (sets_board slots.now words.old records.old cache.now memory.old uses.now tag) page frame write result (sets_board slots.now words.new records.new cache.now memory.new uses.now tag) }
 {
     if board::fits(
         s,

@@ -3,8 +3,9 @@
 
 ghost use Rattle.std.specs.Prelude.{◌≡◌};
 ghost use Rattle.board.specs.declared.Pending.{Pending};
-ghost use Rattle.machine.specs.Clauses.{sets_before, sets_after, Move};
+ghost use Rattle.machine.specs.Clauses.{Move};
 ghost use Rattle.move_call.specs.Checks.{move_frame};
+ghost use Rattle.machine.specs.Boards.{sets_board};
 
 use board::{Answer, Found, Shape, numbered};
 use page_calls::Frame;
@@ -37,7 +38,7 @@ pub fn move_page(
     page: u64,
     new: u64,
 ) -> Answer
-    ensures { (tag : Pending) → Move s (sets_before slots words records cache memory uses tag) page new result (sets_after slots words records cache memory uses tag) }
+    ensures { (tag : Pending) → Move s (sets_board slots.now words.old records.old cache.now memory.old uses.now tag) page new result (sets_board slots.now words.new records.new cache.now memory.new uses.now tag) }
 {
     if board::fits(
         s,

@@ -6,11 +6,12 @@ ghost use Rattle.address.specs.Addresses.{global};
 ghost use Rattle.board.specs.Lists.{is_yes};
 ghost use Rattle.board.specs.declared.Pending.{Pending};
 ghost use Rattle.board.specs.Shapes.{one_line};
-ghost use Rattle.machine.specs.Clauses.{before, after, SupervisorAccess, Attach, Detach, Map, Unmap, Protect, Move, FlushAll, Tag, LoadAndMap, DropTag, LookNumber};
+ghost use Rattle.machine.specs.Clauses.{SupervisorAccess, Attach, Detach, Map, Unmap, Protect, Move, FlushAll, Tag, LoadAndMap, DropTag, LookNumber};
 ghost use Rattle.crossing.specs.Packing.{unpacked, tag_of, access};
-ghost use Rattle.crossing.specs.Returns.{tag_before, returned, Meets};
+ghost use Rattle.crossing.specs.Returns.{returned, Meets};
 ghost use Rattle.crossing.specs.Entries.{EntryReturned};
 ghost use Rattle.look_place.specs.Lends.{LookPlace};
+ghost use Rattle.machine.specs.Boards.{board};
 
 use address::Global;
 use board::{Pending, Shape};
@@ -35,7 +36,7 @@ pub extern "C" fn oaledva_supervisor_access(
     address: u64,
     value: u32,
 ) -> u64
-    ensures { SupervisorAccess (one_line frames uncached processes lines) (before slots words records cache memory (tag_of set name)) (access store width value) (global address) (unpacked result) (after slots words records cache memory (tag_of set name)) }
+    ensures { SupervisorAccess (one_line frames uncached processes lines) (board slots.now words.now records.old cache.old memory.old (tag_of set name)) (access store width value) (global address) (unpacked result) (board slots.now words.now records.new cache.new memory.new (tag_of set name)) }
 {
     let mut none: [[[u8; 4]; 4]; 0] = [];
     let s = Shape {
@@ -86,7 +87,7 @@ pub extern "C" fn oaledva_attach(
     segment: u64,
     write: u32,
 ) -> u64
-    ensures { (tag : Pending) → Attach (one_line frames uncached processes lines) (before slots words records cache memory tag) process slot segment (is_yes write) (unpacked result) (after slots words records cache memory tag) }
+    ensures { (tag : Pending) → Attach (one_line frames uncached processes lines) (board slots.old words.now records.now cache.now memory.now tag) process slot segment (is_yes write) (unpacked result) (board slots.new words.now records.now cache.now memory.now tag) }
 {
     let none: [[[u8; 4]; 4]; 0] = [];
     let s = Shape {
@@ -127,7 +128,7 @@ pub extern "C" fn oaledva_detach(
     process: usize,
     slot: usize,
 ) -> u64
-    ensures { (tag : Pending) → Detach (one_line frames uncached processes lines) (before slots words records cache memory tag) process slot (unpacked result) (after slots words records cache memory tag) }
+    ensures { (tag : Pending) → Detach (one_line frames uncached processes lines) (board slots.old words.now records.now cache.now memory.now tag) process slot (unpacked result) (board slots.new words.now records.now cache.now memory.now tag) }
 {
     let none: [[[u8; 4]; 4]; 0] = [];
     let s = Shape {
@@ -159,7 +160,7 @@ pub extern "C" fn oaledva_map(
     frame: usize,
     write: u32,
 ) -> u64
-    ensures { (tag : Pending) → Map (one_line frames uncached processes lines) (before slots words records cache memory tag) page frame (is_yes write) (unpacked result) (after slots words records cache memory tag) }
+    ensures { (tag : Pending) → Map (one_line frames uncached processes lines) (board slots.now words.old records.old cache.now memory.old tag) page frame (is_yes write) (unpacked result) (board slots.now words.new records.new cache.now memory.new tag) }
 {
     let none: [[[u8; 4]; 4]; 0] = [];
     let s = Shape {
@@ -198,7 +199,7 @@ pub extern "C" fn oaledva_unmap(
     memory: &mut [u8],
     page: u64,
 ) -> u64
-    ensures { (tag : Pending) → Unmap (one_line frames uncached processes lines) (before slots words records cache memory tag) page (unpacked result) (after slots words records cache memory tag) }
+    ensures { (tag : Pending) → Unmap (one_line frames uncached processes lines) (board slots.now words.old records.old cache.now memory.old tag) page (unpacked result) (board slots.now words.new records.new cache.now memory.new tag) }
 {
     let none: [[[u8; 4]; 4]; 0] = [];
     let s = Shape {
@@ -227,7 +228,7 @@ pub extern "C" fn oaledva_protect(
     page: u64,
     write: u32,
 ) -> u64
-    ensures { (tag : Pending) → Protect (one_line frames uncached processes lines) (before slots words records cache memory tag) page (is_yes write) (unpacked result) (after slots words records cache memory tag) }
+    ensures { (tag : Pending) → Protect (one_line frames uncached processes lines) (board slots.now words.old records.old cache.now memory.old tag) page (is_yes write) (unpacked result) (board slots.now words.new records.new cache.now memory.new tag) }
 {
     let none: [[[u8; 4]; 4]; 0] = [];
     let s = Shape {
@@ -266,7 +267,7 @@ pub extern "C" fn oaledva_move(
     page: u64,
     new_page: u64,
 ) -> u64
-    ensures { (tag : Pending) → Move (one_line frames uncached processes lines) (before slots words records cache memory tag) page new_page (unpacked result) (after slots words records cache memory tag) }
+    ensures { (tag : Pending) → Move (one_line frames uncached processes lines) (board slots.now words.old records.old cache.now memory.old tag) page new_page (unpacked result) (board slots.now words.new records.new cache.now memory.new tag) }
 {
     let none: [[[u8; 4]; 4]; 0] = [];
     let s = Shape {
@@ -295,7 +296,7 @@ pub extern "C" fn oaledva_flush_all(
     cache: &[u8],
     memory: &mut [u8],
 ) -> u64
-    ensures { (tag : Pending) → FlushAll (one_line frames uncached processes lines) (before slots words records cache memory tag) (unpacked result) (after slots words records cache memory tag) }
+    ensures { (tag : Pending) → FlushAll (one_line frames uncached processes lines) (board slots.now words.now records.old cache.now memory.old tag) (unpacked result) (board slots.now words.now records.new cache.now memory.new tag) }
 {
     let none: [[[u8; 4]; 4]; 0] = [];
     let s = Shape {
@@ -325,7 +326,7 @@ pub extern "C" fn oaledva_tag(
     name: &mut u64,
     line: u64,
 ) -> u64
-    ensures { Meets (Tag (one_line frames uncached processes lines) (before slots words records cache memory (tag_before set name)) line) set.old (returned result slots words records cache memory set name) }
+    ensures { Meets (Tag (one_line frames uncached processes lines) (board slots.now words.now records.now cache.now memory.now (tag_of set.old name.old)) line) set.old (returned result slots.now words.now records.now cache.now memory.now set.new name.new) }
 {
     let s = Shape {
         frames: frames,
@@ -360,7 +361,7 @@ pub extern "C" fn oaledva_load_and_map(
     name: &mut u64,
     line: usize,
 ) -> u64
-    ensures { Meets (LoadAndMap (one_line frames uncached processes lines) (before slots words records cache memory (tag_before set name)) line) set.old (returned result slots words records cache memory set name) }
+    ensures { Meets (LoadAndMap (one_line frames uncached processes lines) (board slots.now words.now records.old cache.old memory.old (tag_of set.old name.old)) line) set.old (returned result slots.now words.now records.new cache.new memory.new set.new name.new) }
 {
     let s = Shape {
         frames: frames,
@@ -394,7 +395,7 @@ pub extern "C" fn oaledva_drop_tag(
     set: &mut u32,
     name: &mut u64,
 ) -> u64
-    ensures { Meets (DropTag (one_line frames uncached processes lines) (before slots words records cache memory (tag_before set name))) set.old (returned result slots words records cache memory set name) }
+    ensures { Meets (DropTag (one_line frames uncached processes lines) (board slots.now words.now records.now cache.now memory.now (tag_of set.old name.old))) set.old (returned result slots.now words.now records.now cache.now memory.now set.new name.new) }
 {
     let s = Shape {
         frames: frames,
@@ -427,7 +428,7 @@ pub extern "C" fn oaledva_look_number(
     memory: &[u8],
     line: usize,
 ) -> u32
-    ensures { (tag : Pending) → LookNumber (one_line frames uncached processes lines) (before slots words records cache memory tag) line result }
+    ensures { (tag : Pending) → LookNumber (one_line frames uncached processes lines) (board slots.now words.now records.now cache.now memory.now tag) line result }
 {
     let none: [[[u8; 4]; 4]; 0] = [];
     let s = Shape {
@@ -454,7 +455,7 @@ pub extern "C" fn oaledva_look(
     memory: &[u8],
     line: usize,
 ) -> u64
-    ensures { (tag : Pending) → LookPlace (one_line frames uncached processes lines) (before slots words records cache memory tag) line result }
+    ensures { (tag : Pending) → LookPlace (one_line frames uncached processes lines) (board slots.now words.now records.now cache.now memory.now tag) line result }
 {
     let none: [[[u8; 4]; 4]; 0] = [];
     let s = Shape {

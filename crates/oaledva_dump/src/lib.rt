@@ -5,10 +5,11 @@
 ghost use Rattle.std.specs.Prelude.{◌≡◌};
 ghost use Rattle.board.specs.Shapes.{one_line};
 ghost use Rattle.board.specs.declared.Pending.{Pending};
-ghost use Rattle.machine.specs.Clauses.{before, after};
 ghost use Rattle.dumps.specs.Clauses.{Check};
 ghost use Rattle.repairs.specs.Clauses.{Repair};
 ghost use Rattle.oaledva_dump.specs.Reports.{unpacked, Small};
+ghost use Rattle.machine.specs.Boards.{board};
+ghost use Rattle.stores.specs.Lent.{lent};
 
 use board::Shape;
 use dumps::Report;
@@ -46,7 +47,7 @@ pub extern "C" fn oaledva_check(
     keys: &mut [u64],
     links: &mut [u64],
 ) -> u64
-    ensures { (tag : Pending) → Check (one_line frames uncached processes lines) (before slots words records cache memory tag) keys links (unpacked result) }
+    ensures { (tag : Pending) → Check (one_line frames uncached processes lines) (board slots.now words.now records.now cache.now memory.now tag) (lent keys.old keys.new) (lent links.old links.new) (unpacked result) }
 {
     let s = Shape {
         frames: frames,
@@ -75,7 +76,7 @@ pub extern "C" fn oaledva_repair(
     links: &mut [u64],
     dropped: &mut [u8],
 ) -> u64
-    ensures { (tag : Pending) → Repair (one_line frames uncached processes lines) (before slots words records cache memory tag) keys links dropped (unpacked result) (after slots words records cache memory tag) }
+    ensures { (tag : Pending) → Repair (one_line frames uncached processes lines) (board slots.now words.now records.old cache.now memory.now tag) (lent keys.old keys.new) (lent links.old links.new) (lent dropped.old dropped.new) (unpacked result) (board slots.now words.now records.new cache.now memory.now tag) }
 {
     let s = Shape {
         frames: frames,

@@ -4,8 +4,9 @@
 
 ghost use Rattle.board.specs.Shapes.{one_line};
 ghost use Rattle.machine.specs.Lists.{answered};
-ghost use Rattle.machine.specs.Clauses.{before, after, UserAccesses};
+ghost use Rattle.machine.specs.Clauses.{UserAccesses};
 ghost use Rattle.crossing.specs.Packing.{unpacked, unpacked_all, tag_of};
+ghost use Rattle.machine.specs.Boards.{board};
 
 use board::{Pending, Shape};
 
@@ -26,7 +27,7 @@ pub extern "C" fn oaledva_user_accesses(
     accesses: &[u32],
     answers: &mut [u64],
 ) -> u64
-    ensures { UserAccesses (one_line frames uncached processes lines) (before slots words records cache memory (tag_of set name)) accesses.now (unpacked_all answers.old) (unpacked result) (answered (unpacked_all answers.new) (after slots words records cache memory (tag_of set name))) }
+    ensures { UserAccesses (one_line frames uncached processes lines) (board slots.now words.now records.old cache.old memory.old (tag_of set name)) accesses.now (unpacked_all answers.old) (unpacked result) (answered (unpacked_all answers.new) (board slots.now words.now records.new cache.new memory.new (tag_of set name))) }
 {
     let mut none: [[[u8; 4]; 4]; 0] = [];
     let s = Shape {

@@ -6,10 +6,11 @@ ghost use Rattle.address.specs.Addresses.{global};
 ghost use Rattle.board.specs.Lists.{is_yes};
 ghost use Rattle.board.specs.declared.Pending.{Pending};
 ghost use Rattle.board.specs.Shapes.{four_lines};
-ghost use Rattle.machine.specs.Clauses.{sets_before, sets_after, SupervisorAccess, Attach, Detach, Map, Unmap, Protect, Move, FlushAll, Tag, LoadAndMap, DropTag, LookNumber};
+ghost use Rattle.machine.specs.Clauses.{SupervisorAccess, Attach, Detach, Map, Unmap, Protect, Move, FlushAll, Tag, LoadAndMap, DropTag, LookNumber};
 ghost use Rattle.crossing.specs.Packing.{unpacked, tag_of, access};
-ghost use Rattle.crossing.specs.Returns.{tag_before, sets_returned, Meets};
+ghost use Rattle.crossing.specs.Returns.{sets_returned, Meets};
 ghost use Rattle.look_place.specs.Lends.{LookPlace};
+ghost use Rattle.machine.specs.Boards.{sets_board};
 
 use address::Global;
 use board::{Pending, SET_LINES, Shape};
@@ -35,7 +36,7 @@ pub extern "C" fn oaledva_sets_supervisor_access(
     address: u64,
     value: u32,
 ) -> u64
-    ensures { SupervisorAccess (four_lines frames uncached processes lines) (sets_before slots words records cache memory uses (tag_of set name)) (access store width value) (global address) (unpacked result) (sets_after slots words records cache memory uses (tag_of set name)) }
+    ensures { SupervisorAccess (four_lines frames uncached processes lines) (sets_board slots.now words.now records.old cache.old memory.old uses.old (tag_of set name)) (access store width value) (global address) (unpacked result) (sets_board slots.now words.now records.new cache.new memory.new uses.new (tag_of set name)) }
 {
     let s = Shape {
         frames: frames,
@@ -86,7 +87,7 @@ pub extern "C" fn oaledva_sets_attach(
     segment: u64,
     write: u32,
 ) -> u64
-    ensures { (tag : Pending) → Attach (four_lines frames uncached processes lines) (sets_before slots words records cache memory uses tag) process slot segment (is_yes write) (unpacked result) (sets_after slots words records cache memory uses tag) }
+    ensures { (tag : Pending) → Attach (four_lines frames uncached processes lines) (sets_board slots.old words.now records.now cache.now memory.now uses.now tag) process slot segment (is_yes write) (unpacked result) (sets_board slots.new words.now records.now cache.now memory.now uses.now tag) }
 {
     let s = Shape {
         frames: frames,
@@ -127,7 +128,7 @@ pub extern "C" fn oaledva_sets_detach(
     process: usize,
     slot: usize,
 ) -> u64
-    ensures { (tag : Pending) → Detach (four_lines frames uncached processes lines) (sets_before slots words records cache memory uses tag) process slot (unpacked result) (sets_after slots words records cache memory uses tag) }
+    ensures { (tag : Pending) → Detach (four_lines frames uncached processes lines) (sets_board slots.old words.now records.now cache.now memory.now uses.now tag) process slot (unpacked result) (sets_board slots.new words.now records.now cache.now memory.now uses.now tag) }
 {
     let s = Shape {
         frames: frames,
@@ -157,7 +158,7 @@ pub extern "C" fn oaledva_sets_map(
     frame: usize,
     write: u32,
 ) -> u64
-    ensures { (tag : Pending) → Map (four_lines frames uncached processes lines) (sets_before slots words records cache memory uses tag) page frame (is_yes write) (unpacked result) (sets_after slots words records cache memory uses tag) }
+    ensures { (tag : Pending) → Map (four_lines frames uncached processes lines) (sets_board slots.now words.old records.old cache.now memory.old uses.now tag) page frame (is_yes write) (unpacked result) (sets_board slots.now words.new records.new cache.now memory.new uses.now tag) }
 {
     let s = Shape {
         frames: frames,
@@ -196,7 +197,7 @@ pub extern "C" fn oaledva_sets_unmap(
     uses: &[[[u8; 4]; 4]],
     page: u64,
 ) -> u64
-    ensures { (tag : Pending) → Unmap (four_lines frames uncached processes lines) (sets_before slots words records cache memory uses tag) page (unpacked result) (sets_after slots words records cache memory uses tag) }
+    ensures { (tag : Pending) → Unmap (four_lines frames uncached processes lines) (sets_board slots.now words.old records.old cache.now memory.old uses.now tag) page (unpacked result) (sets_board slots.now words.new records.new cache.now memory.new uses.now tag) }
 {
     let s = Shape {
         frames: frames,
@@ -225,7 +226,7 @@ pub extern "C" fn oaledva_sets_protect(
     page: u64,
     write: u32,
 ) -> u64
-    ensures { (tag : Pending) → Protect (four_lines frames uncached processes lines) (sets_before slots words records cache memory uses tag) page (is_yes write) (unpacked result) (sets_after slots words records cache memory uses tag) }
+    ensures { (tag : Pending) → Protect (four_lines frames uncached processes lines) (sets_board slots.now words.old records.old cache.now memory.old uses.now tag) page (is_yes write) (unpacked result) (sets_board slots.now words.new records.new cache.now memory.new uses.now tag) }
 {
     let s = Shape {
         frames: frames,
@@ -264,7 +265,7 @@ pub extern "C" fn oaledva_sets_move(
     page: u64,
     new_page: u64,
 ) -> u64
-    ensures { (tag : Pending) → Move (four_lines frames uncached processes lines) (sets_before slots words records cache memory uses tag) page new_page (unpacked result) (sets_after slots words records cache memory uses tag) }
+    ensures { (tag : Pending) → Move (four_lines frames uncached processes lines) (sets_board slots.now words.old records.old cache.now memory.old uses.now tag) page new_page (unpacked result) (sets_board slots.now words.new records.new cache.now memory.new uses.now tag) }
 {
     let s = Shape {
         frames: frames,
@@ -293,7 +294,7 @@ pub extern "C" fn oaledva_sets_flush_all(
     memory: &mut [u8],
     uses: &[[[u8; 4]; 4]],
 ) -> u64
-    ensures { (tag : Pending) → FlushAll (four_lines frames uncached processes lines) (sets_before slots words records cache memory uses tag) (unpacked result) (sets_after slots words records cache memory uses tag) }
+    ensures { (tag : Pending) → FlushAll (four_lines frames uncached processes lines) (sets_board slots.now words.now records.old cache.now memory.old uses.now tag) (unpacked result) (sets_board slots.now words.now records.new cache.now memory.new uses.now tag) }
 {
     let s = Shape {
         frames: frames,
@@ -323,7 +324,7 @@ pub extern "C" fn oaledva_sets_tag(
     name: &mut u64,
     line: u64,
 ) -> u64
-    ensures { Meets (Tag (four_lines frames uncached processes lines) (sets_before slots words records cache memory uses (tag_before set name)) line) set.old (sets_returned result slots words records cache memory uses set name) }
+    ensures { Meets (Tag (four_lines frames uncached processes lines) (sets_board slots.now words.now records.now cache.now memory.now uses.now (tag_of set.old name.old)) line) set.old (sets_returned result slots.now words.now records.now cache.now memory.now uses.now set.new name.new) }
 {
     let s = Shape {
         frames: frames,
@@ -359,7 +360,7 @@ pub extern "C" fn oaledva_sets_load_and_map(
     name: &mut u64,
     line: usize,
 ) -> u64
-    ensures { Meets (LoadAndMap (four_lines frames uncached processes lines) (sets_before slots words records cache memory uses (tag_before set name)) line) set.old (sets_returned result slots words records cache memory uses set name) }
+    ensures { Meets (LoadAndMap (four_lines frames uncached processes lines) (sets_board slots.now words.now records.old cache.old memory.old uses.old (tag_of set.old name.old)) line) set.old (sets_returned result slots.now words.now records.new cache.new memory.new uses.new set.new name.new) }
 {
     let s = Shape {
         frames: frames,
@@ -394,7 +395,7 @@ pub extern "C" fn oaledva_sets_drop_tag(
     set: &mut u32,
     name: &mut u64,
 ) -> u64
-    ensures { Meets (DropTag (four_lines frames uncached processes lines) (sets_before slots words records cache memory uses (tag_before set name))) set.old (sets_returned result slots words records cache memory uses set name) }
+    ensures { Meets (DropTag (four_lines frames uncached processes lines) (sets_board slots.now words.now records.now cache.now memory.now uses.now (tag_of set.old name.old))) set.old (sets_returned result slots.now words.now records.now cache.now memory.now uses.now set.new name.new) }
 {
     let s = Shape {
         frames: frames,
@@ -428,7 +429,7 @@ pub extern "C" fn oaledva_sets_look_number(
     uses: &[[[u8; 4]; 4]],
     line: usize,
 ) -> u32
-    ensures { (tag : Pending) → LookNumber (four_lines frames uncached processes lines) (sets_before slots words records cache memory uses tag) line result }
+    ensures { (tag : Pending) → LookNumber (four_lines frames uncached processes lines) (sets_board slots.now words.now records.now cache.now memory.now uses.now tag) line result }
 {
     let s = Shape {
         frames: frames,
@@ -455,7 +456,7 @@ pub extern "C" fn oaledva_sets_look(
     uses: &[[[u8; 4]; 4]],
     line: usize,
 ) -> u64
-    ensures { (tag : Pending) → LookPlace (four_lines frames uncached processes lines) (sets_before slots words records cache memory uses tag) line result }
+    ensures { (tag : Pending) → LookPlace (four_lines frames uncached processes lines) (sets_board slots.now words.now records.now cache.now memory.now uses.now tag) line result }
 {
     let s = Shape {
         frames: frames,

@@ -4,8 +4,9 @@
 
 ghost use Rattle.board.specs.Shapes.{four_lines};
 ghost use Rattle.machine.specs.Lists.{answered};
-ghost use Rattle.machine.specs.Clauses.{sets_before, sets_after, UserAccesses};
+ghost use Rattle.machine.specs.Clauses.{UserAccesses};
 ghost use Rattle.crossing.specs.Packing.{unpacked, unpacked_all, tag_of};
+ghost use Rattle.machine.specs.Boards.{sets_board};
 
 use board::{Pending, SET_LINES, Shape};
 
@@ -27,7 +28,7 @@ pub extern "C" fn oaledva_sets_user_accesses(
     accesses: &[u32],
     answers: &mut [u64],
 ) -> u64
-    ensures { UserAccesses (four_lines frames uncached processes lines) (sets_before slots words records cache memory uses (tag_of set name)) accesses.now (unpacked_all answers.old) (unpacked result) (answered (unpacked_all answers.new) (sets_after slots words records cache memory uses (tag_of set name))) }
+    ensures { UserAccesses (four_lines frames uncached processes lines) (sets_board slots.now words.now records.old cache.old memory.old uses.old (tag_of set name)) accesses.now (unpacked_all answers.old) (unpacked result) (answered (unpacked_all answers.new) (sets_board slots.now words.now records.new cache.new memory.new uses.new (tag_of set name))) }
 {
     let s = Shape {
         frames: frames,

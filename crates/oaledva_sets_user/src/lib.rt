@@ -4,8 +4,9 @@
 
 ghost use Rattle.address.specs.Addresses.{effective};
 ghost use Rattle.board.specs.Shapes.{four_lines};
-ghost use Rattle.machine.specs.Clauses.{sets_before, sets_after, UserAccess};
+ghost use Rattle.machine.specs.Clauses.{UserAccess};
 ghost use Rattle.crossing.specs.Packing.{unpacked, tag_of, access};
+ghost use Rattle.machine.specs.Boards.{sets_board};
 
 use address::Effective;
 use board::{Pending, SET_LINES, Shape};
@@ -32,7 +33,7 @@ pub extern "C" fn oaledva_sets_user_access(
     address: u32,
     value: u32,
 ) -> u64
-    ensures { UserAccess (four_lines frames uncached processes lines) (sets_before slots words records cache memory uses (tag_of set name)) process (access store width value) (effective address) (unpacked result) (sets_after slots words records cache memory uses (tag_of set name)) }
+    ensures { UserAccess (four_lines frames uncached processes lines) (sets_board slots.now words.now records.old cache.old memory.old uses.old (tag_of set name)) process (access store width value) (effective address) (unpacked result) (sets_board slots.now words.now records.new cache.new memory.new uses.new (tag_of set name)) }
 {
     let s = Shape {
         frames: frames,

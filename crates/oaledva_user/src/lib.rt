@@ -4,8 +4,9 @@
 
 ghost use Rattle.address.specs.Addresses.{effective};
 ghost use Rattle.board.specs.Shapes.{one_line};
-ghost use Rattle.machine.specs.Clauses.{before, after, UserAccess};
+ghost use Rattle.machine.specs.Clauses.{UserAccess};
 ghost use Rattle.crossing.specs.Packing.{unpacked, tag_of, access};
+ghost use Rattle.machine.specs.Boards.{board};
 
 use address::Effective;
 use board::{Pending, Shape};
@@ -31,7 +32,7 @@ pub extern "C" fn oaledva_user_access(
     address: u32,
     value: u32,
 ) -> u64
-    ensures { UserAccess (one_line frames uncached processes lines) (before slots words records cache memory (tag_of set name)) process (access store width value) (effective address) (unpacked result) (after slots words records cache memory (tag_of set name)) }
+    ensures { UserAccess (one_line frames uncached processes lines) (board slots.now words.now records.old cache.old memory.old (tag_of set name)) process (access store width value) (effective address) (unpacked result) (board slots.now words.now records.new cache.new memory.new (tag_of set name)) }
 {
     let mut none: [[[u8; 4]; 4]; 0] = [];
     let s = Shape {

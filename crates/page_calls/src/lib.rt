@@ -3,8 +3,9 @@
 
 ghost use Rattle.std.specs.Prelude.{◌≡◌};
 ghost use Rattle.board.specs.declared.Pending.{Pending};
-ghost use Rattle.machine.specs.Clauses.{sets_before, sets_after, Unmap, Protect};
+ghost use Rattle.machine.specs.Clauses.{Unmap, Protect};
 ghost use Rattle.page_calls.specs.Checks.{page_frame};
+ghost use Rattle.machine.specs.Boards.{sets_board};
 
 use board::{Answer, Found, Shape, numbered};
 
@@ -39,7 +40,7 @@ pub fn unmap(
     uses: &[[[u8; 4]; 4]],
     page: u64,
 ) -> Answer
-    ensures { (tag : Pending) → Unmap s (sets_before slots words records cache memory uses tag) page result (sets_after slots words records cache memory uses tag) }
+    ensures { (tag : Pending) → Unmap s (sets_board slots.now words.old records.old cache.now memory.old uses.now tag) page result (sets_board slots.now words.new records.new cache.now memory.new uses.now tag) }
 {
     if board::fits(
         s,
@@ -75,7 +76,7 @@ pub fn protect(
     page: u64,
     write: bool,
 ) -> Answer
-    ensures { (tag : Pending) → Protect s (sets_before slots words records cache memory uses tag) page write result (sets_after slots words records cache memory uses tag) }
+    ensures { (tag : Pending) → Protect s (sets_board slots.now words.old records.old cache.now memory.old uses.now tag) page write result (sets_board slots.now words.new records.new cache.now memory.new uses.now tag) }
 {
     if board::fits(
         s,

@@ -1,26 +1,11 @@
--- What the contracts of protect and flush all over lines say, as machine's `Contracts` says it of the board's own calls: the code's `ensures` cites
+-- What the contracts of protect and flush all over lines say, as machine's `Clauses` says it of the board's own calls: the code's `ensures` cites
 -- these definitions, and no second outcome meets them.
 use Rattle.std.specs.Prelude.{ℕ, ◌≡◌, Bool, List}
-use Rattle.std.specs.Borrow.{Bor}
-use denote.Triple.Both.{Both}
 use Rattle.board.specs.declared.Answer.{Answer}
 use Rattle.board.specs.declared.Shape.{Shape}
 use Rattle.lines.specs.declared.Line.{Line}
-use Rattle.stores.specs.Lent.{Buffer}
 use Rattle.machine.specs.Clauses.{Determines}
 use Rattle.record_steps.specs.Lent.{LentBoard, lent_board, lent_outcome, protect_lent, flush_lent}
-
--- lines that a call is lent: as it begins and as it ends
-abbrev pub LentLines : Type 0
-LentLines = Both (Bor (List Line)) (Bor (List Line))
-
--- the board that the buffers are before the call, and after it
-abbrev pub lent_before : Buffer → Buffer → LentLines → Buffer → Buffer → LentBoard
-lent_before slots words lines cache memory =
-    lent_board slots.entry.now words.entry.now lines.entry.now cache.entry.now memory.entry.now
-
-abbrev pub lent_after : Buffer → Buffer → LentLines → Buffer → Buffer → LentBoard
-lent_after slots words lines cache memory = lent_board slots.exit.now words.exit.now lines.exit.now cache.exit.now memory.exit.now
 
 abbrev pub ProtectLent : Shape → LentBoard → ℕ → Bool → Answer → LentBoard → Type 0
 ProtectLent s b page write r c = lent_outcome r c ≡ protect_lent s b page write

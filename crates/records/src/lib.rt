@@ -2,7 +2,8 @@
 // goes by value through a function that says what happens to one line.
 #![tactic(auto)]
 
-ghost use Rattle.record_steps.specs.Clauses.{lent_before, lent_after, ProtectLent, FlushLent};
+ghost use Rattle.record_steps.specs.Clauses.{ProtectLent, FlushLent};
+ghost use Rattle.record_steps.specs.Lent.{lent_board};
 
 use board::{Answer, Shape};
 use lines::Line;
@@ -18,7 +19,7 @@ pub fn protect(
     page: u64,
     write: bool,
 ) -> Answer
-    ensures { ProtectLent s (lent_before slots words lines cache memory) page write result (lent_after slots words lines cache memory) }
+    ensures { ProtectLent s (lent_board slots.now words.old lines.old cache.now memory.now) page write result (lent_board slots.now words.new lines.new cache.now memory.now) }
 {
     let count = lines.len();
     let a = record_steps::protect_word(
@@ -49,7 +50,7 @@ pub fn flush_all(
     cache: &[u8],
     memory: &mut [u8],
 ) -> Answer
-    ensures { FlushLent s (lent_before slots words lines cache memory) result (lent_after slots words lines cache memory) }
+    ensures { FlushLent s (lent_board slots.now words.now lines.old cache.now memory.old) result (lent_board slots.now words.now lines.new cache.now memory.new) }
 {
     let count = lines.len();
     let a = record_steps::flush_number(

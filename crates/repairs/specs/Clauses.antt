@@ -13,6 +13,6 @@ use Rattle.repairs.specs.Repairs.{repair_outcome, repair_call}
 pub record Repair (s : Shape) (b : Board) (keys links flags : Buffer) (r : Report) (c : Board) : Type 0 where
   -- all of the board but its store is as it was: slots, words, tag
   pub rest_kept : c ≡ with_store b c.store
-  pub outcome_is : repair_outcome r c.store flags.exit.now ≡ repair_call s b (length keys.entry.now) (length links.entry.now) flags.entry.now
-  pub scratch_kept : (fits_board s b && (room_for s (length keys.entry.now) (length links.entry.now) && eqb (length flags.entry.now) s.lines)) ≡ false
+  pub outcome_is : repair_outcome r c.store flags.after ≡ repair_call s b (length keys.before) (length links.before) flags.before
+  pub scratch_kept : (fits_board s b && (room_for s (length keys.before) (length links.before) && eqb (length flags.before) s.lines)) ≡ false
       → Kept keys × Kept links

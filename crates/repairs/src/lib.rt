@@ -8,13 +8,14 @@ ghost use Rattle.board.specs.declared.Pending.{Pending};
 ghost use Rattle.pages.specs.Pages.{home_of};
 ghost use Rattle.lines.specs.Holds.{holds_at};
 ghost use Rattle.lines.specs.Premises.{Lined};
-ghost use Rattle.stores.specs.Lent.{store_before, store_after};
 ghost use Rattle.stores.specs.Premises.{Sized};
-ghost use Rattle.machine.specs.Clauses.{before, after};
 ghost use Rattle.dump_pages.specs.Pages.{doubled_page};
 ghost use Rattle.repairs.specs.Repairs.{repaired, dropped_flags, dropped_count, repair_outcome, mended_lines, mended_pages};
 ghost use Rattle.repairs.specs.Steps.{kept_at, mended_to};
 ghost use Rattle.repairs.specs.Clauses.{Repair};
+ghost use Rattle.machine.specs.Boards.{board};
+ghost use Rattle.stores.specs.Stores.{store};
+ghost use Rattle.stores.specs.Lent.{lent};
 
 use board::{Found, Shape};
 use dumps::{LENGTHS, PAGE_ONCE, Report};
@@ -60,7 +61,7 @@ fn repair_lines(
     dropped: &mut [u8],
 ) -> usize
     requires { Sized s records.old cache.now memory.now × (length words.now ≡ s.frames) × (doubled_page s words.now ≡ Nothing) × (length keys.old ≡ s.lines) × (2 * s.lines ≤ length links.old) × (length dropped.old ≡ s.lines) }
-    ensures { (store_after records cache memory ≡ repaired s (home_of s words.now) (store_before records cache memory)) × (dropped.new ≡ dropped_flags s records.old records.new) × (result ≡ dropped_count s records.old records.new) }
+    ensures { (store records.new cache.now memory.now ≡ repaired s (home_of s words.now) (store records.old cache.now memory.now)) × (dropped.new ≡ dropped_flags s records.old records.new) × (result ≡ dropped_count s records.old records.new) }
 {
     dump_lines::place_keys(true, s, words, records, cache, memory, keys);
     doubles::plant(keys, links);
@@ -90,7 +91,7 @@ fn mend_lines(
     dropped: &mut [u8],
 ) -> Report
     requires { Sized s records.old cache.now memory.now × (length words.now ≡ s.frames) × (doubled_page s words.now ≡ Nothing) × (s.lines ≤ length keys.old) × (2 * s.lines ≤ length links.old) × (length dropped.old ≡ s.lines) }
-    ensures { repair_outcome result (store_after records cache memory) dropped.new ≡ mended_lines s (home_of s words.now) (store_before records cache memory) }
+    ensures { repair_outcome result (store records.new cache.now memory.now) dropped.new ≡ mended_lines s (home_of s words.now) (store records.old cache.now memory.now) }
 {
     let lines = s.lines;
     let before = dumps::check_lines(s, words, records, cache, memory, keys, links);
@@ -124,7 +125,7 @@ fn mend_pages(
     dropped: &mut [u8],
 ) -> Report
     requires { Sized s records.old cache.now memory.now × (length words.now ≡ s.frames) × (s.frames ≤ length keys.old) × (2 * s.frames ≤ length links.old) × (s.lines ≤ length keys.old) × (2 * s.lines ≤ length links.old) × (length dropped.old ≡ s.lines) }
-    ensures { repair_outcome result (store_after records cache memory) dropped.new ≡ mended_pages s words.now (store_before records cache memory) dropped.old (doubled_page s words.now) }
+    ensures { repair_outcome result (store records.new cache.now memory.now) dropped.new ≡ mended_pages s words.now (store records.old cache.now memory.now) dropped.old (doubled_page s words.now) }
 {
     let frames = s.frames;
     match dump_pages::doubled_page(s, words, &mut keys[0..frames], links) {
@@ -146,7 +147,7 @@ pub fn repair(
     links: &mut [u64],
     dropped: &mut [u8],
 ) -> Report
-    ensures { (tag : Pending) → Repair s (before slots words records cache memory tag) keys links dropped result (after slots words records cache memory tag) }
+    ensures { (tag : Pending) → Repair s (board slots.now words.now records.old cache.now memory.now tag) (lent keys.old keys.new) (lent links.old links.new) (lent dropped.old dropped.new) result (board slots.now words.now records.new cache.now memory.now tag) }
 {
     if board::fits(
         s,

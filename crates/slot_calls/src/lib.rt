@@ -5,7 +5,8 @@ ghost use Rattle.std.specs.Prelude.{◌≡◌, ◌&&◌};
 ghost use Rattle.address.specs.Addresses.{attachable};
 ghost use Rattle.board.specs.declared.Pending.{Pending};
 ghost use Rattle.machine.specs.Refusals.{is_process, is_slot};
-ghost use Rattle.machine.specs.Clauses.{sets_before, sets_after, Attach, Detach};
+ghost use Rattle.machine.specs.Clauses.{Attach, Detach};
+ghost use Rattle.machine.specs.Boards.{sets_board};
 
 use board::{Answer, PROCESS_SLOTS, Shape, numbered};
 
@@ -38,7 +39,7 @@ pub fn attach(
     segment: u64,
     write: bool,
 ) -> Answer
-    ensures { (tag : Pending) → Attach s (sets_before slots words records cache memory uses tag) process slot segment write result (sets_after slots words records cache memory uses tag) }
+    ensures { (tag : Pending) → Attach s (sets_board slots.old words.now records.now cache.now memory.now uses.now tag) process slot segment write result (sets_board slots.new words.now records.now cache.now memory.now uses.now tag) }
 {
     if board::fits(
         s,
@@ -71,7 +72,7 @@ pub fn detach(
     process: usize,
     slot: usize,
 ) -> Answer
-    ensures { (tag : Pending) → Detach s (sets_before slots words records cache memory uses tag) process slot result (sets_after slots words records cache memory uses tag) }
+    ensures { (tag : Pending) → Detach s (sets_board slots.old words.now records.now cache.now memory.now uses.now tag) process slot result (sets_board slots.new words.now records.now cache.now memory.now uses.now tag) }
 {
     if board::fits(
         s,

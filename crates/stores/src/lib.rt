@@ -5,8 +5,7 @@ ghost use Rattle.std.specs.Prelude.{◌≡◌, ◌+◌, ◌*◌, ◌≤◌, ◌<
 ghost use Rattle.address.specs.Layout.{line_bytes, page_lines};
 ghost use Rattle.line_bytes.specs.Premises.{Width, InWord};
 ghost use Rattle.stores.specs.Premises.{Sized};
-ghost use Rattle.stores.specs.Stores.{must_write_back, written_back, inserted, performed, performed_at};
-ghost use Rattle.stores.specs.Lent.{store_before, store_after};
+ghost use Rattle.stores.specs.Stores.{must_write_back, written_back, inserted, performed, performed_at, store};
 
 use board::{LINE_BYTES, Shape};
 use lines::Line;
@@ -22,7 +21,7 @@ pub struct Access {
 // Writes the line of record `i` back to its own physical line, if it is held and changed, and says whether it did.
 pub fn write_back(s: Shape, records: &[u64], cache: &[u8], memory: &mut [u8], i: usize) -> bool
     requires { Sized s records.now cache.now memory.old × (i < s.lines) }
-    ensures { (store_after records cache memory ≡ written_back s i (store_before records cache memory)) × (result ≡ must_write_back s records.now i) }
+    ensures { (store records.now cache.now memory.new ≡ written_back s i (store records.now cache.now memory.old)) × (result ≡ must_write_back s records.now i) }
 {
     let l = lines::line_at(records, i);
     if lines::holds(s, i, l) {
@@ -47,7 +46,7 @@ pub fn insert(
     write: bool,
 ) -> bool
     requires { Sized s records.old cache.old memory.old × (i < s.lines) × (line < page_lines * s.frames) }
-    ensures { (store_after records cache memory ≡ inserted s i name line write (store_before records cache memory)) × (result ≡ must_write_back s records.old i) }
+    ensures { (store records.new cache.new memory.new ≡ inserted s i name line write (store records.old cache.old memory.old)) × (result ≡ must_write_back s records.old i) }
 {
     let back = write_back(s, records, cache, memory, i);
     lines::put_line(

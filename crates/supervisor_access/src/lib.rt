@@ -2,8 +2,9 @@
 #![tactic(auto)]
 
 ghost use Rattle.std.specs.Prelude.{◌≡◌, length};
-ghost use Rattle.machine.specs.Clauses.{sets_before, sets_after, SupervisorAccess};
+ghost use Rattle.machine.specs.Clauses.{SupervisorAccess};
 ghost use Rattle.supervisor_access.specs.Plans.{region_plan, waits, supervisor_plan};
+ghost use Rattle.machine.specs.Boards.{sets_board};
 
 use address::{GLOBAL_END, Global, Physical, Region};
 use board::{Answer, Pending, Shape, numbered};
@@ -105,7 +106,7 @@ pub fn supervisor_access(
     a: Access,
     g: Global,
 ) -> Answer
-    ensures { SupervisorAccess s (sets_before slots words records cache memory uses tag) a g result (sets_after slots words records cache memory uses tag) }
+    ensures { SupervisorAccess s (sets_board slots.now words.now records.old cache.old memory.old uses.old tag) a g result (sets_board slots.now words.now records.new cache.new memory.new uses.new tag) }
 {
     if board::fits(
         s,

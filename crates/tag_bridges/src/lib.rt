@@ -2,7 +2,8 @@
 // back what stands there. Whoever calls one needs no walk.
 #![tactic(auto)]
 
-ghost use Rattle.machine.specs.Clauses.{before, after, Tag, LoadAndMap, DropTag};
+ghost use Rattle.machine.specs.Clauses.{Tag, LoadAndMap, DropTag};
+ghost use Rattle.machine.specs.Boards.{board};
 
 use board::{Pending, Shape};
 use tag_calls::Tagged;
@@ -17,7 +18,7 @@ pub fn drop_tag_through(
     memory: &[u8],
     pending: Pending,
 ) -> Tagged
-    ensures { DropTag s (before slots words records cache memory pending) result.answer (after slots words records cache memory result.tag) }
+    ensures { DropTag s (board slots.now words.now records.now cache.now memory.now pending) result.answer (board slots.now words.now records.now cache.now memory.now result.tag) }
 {
     let mut q = pending;
     let answer = tags::drop_tag(s, slots, words, records, cache, memory, &mut q);
@@ -38,7 +39,7 @@ pub fn tag_through(
     pending: Pending,
     name: u64,
 ) -> Tagged
-    ensures { Tag s (before slots words records cache memory pending) name result.answer (after slots words records cache memory result.tag) }
+    ensures { Tag s (board slots.now words.now records.now cache.now memory.now pending) name result.answer (board slots.now words.now records.now cache.now memory.now result.tag) }
 {
     let mut q = pending;
     let answer = tags::tag(s, slots, words, records, cache, memory, &mut q, name);
@@ -59,7 +60,7 @@ pub fn load_and_map_through(
     pending: Pending,
     line: usize,
 ) -> Tagged
-    ensures { LoadAndMap s (before slots words records cache memory pending) line result.answer (after slots words records cache memory result.tag) }
+    ensures { LoadAndMap s (board slots.now words.now records.old cache.old memory.old pending) line result.answer (board slots.now words.now records.new cache.new memory.new result.tag) }
 {
     let mut q = pending;
     let answer = tags::load_and_map(s, slots, words, records, cache, memory, &mut q, line);

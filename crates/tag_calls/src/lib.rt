@@ -3,8 +3,8 @@
 
 ghost use Rattle.std.specs.Prelude.{◌≡◌};
 ghost use Rattle.board.specs.Answers.{answer};
-ghost use Rattle.machine.specs.Boards.{no_tag};
-ghost use Rattle.machine.specs.Clauses.{sets_before, sets_after, before, after, Tag, DropTag};
+ghost use Rattle.machine.specs.Boards.{no_tag, board, sets_board};
+ghost use Rattle.machine.specs.Clauses.{Tag, DropTag};
 
 use address::PAGE_NAMES;
 use board::{Answer, Pending, Shape, numbered};
@@ -51,7 +51,7 @@ pub fn tag_with(
     pending: Pending,
     name: u64,
 ) -> Tagged
-    ensures { Tag s (sets_before slots words records cache memory uses pending) name result.answer (sets_after slots words records cache memory uses result.tag) }
+    ensures { Tag s (sets_board slots.now words.now records.now cache.now memory.now uses.now pending) name result.answer (sets_board slots.now words.now records.now cache.now memory.now uses.now result.tag) }
 {
     if board::fits(
         s,
@@ -91,7 +91,7 @@ pub fn tag(
     pending: Pending,
     name: u64,
 ) -> Tagged
-    ensures { Tag s (before slots words records cache memory pending) name result.answer (after slots words records cache memory result.tag) }
+    ensures { Tag s (board slots.now words.now records.now cache.now memory.now pending) name result.answer (board slots.now words.now records.now cache.now memory.now result.tag) }
 {
     let none: [[[u8; 4]; 4]; 0] = [];
     tag_with(
@@ -110,7 +110,7 @@ pub fn drop_tag_with(
     uses: &[[[u8; 4]; 4]],
     pending: Pending,
 ) -> Tagged
-    ensures { DropTag s (sets_before slots words records cache memory uses pending) result.answer (sets_after slots words records cache memory uses result.tag) }
+    ensures { DropTag s (sets_board slots.now words.now records.now cache.now memory.now uses.now pending) result.answer (sets_board slots.now words.now records.now cache.now memory.now uses.now result.tag) }
 {
     if board::fits(
         s,
@@ -140,7 +140,7 @@ pub fn drop_tag(
     memory: &[u8],
     pending: Pending,
 ) -> Tagged
-    ensures { DropTag s (before slots words records cache memory pending) result.answer (after slots words records cache memory result.tag) }
+    ensures { DropTag s (board slots.now words.now records.now cache.now memory.now pending) result.answer (board slots.now words.now records.now cache.now memory.now result.tag) }
 {
     let none: [[[u8; 4]; 4]; 0] = [];
     drop_tag_with(s, slots, words, records, cache, memory, &none, pending)

@@ -2,7 +2,8 @@
 // Each reads the record, calls the covered call by value, writes the tag back and gives the answer.
 #![tactic(auto)]
 
-ghost use Rattle.machine.specs.Clauses.{before, after, Tag, LoadAndMap, DropTag};
+ghost use Rattle.machine.specs.Clauses.{Tag, LoadAndMap, DropTag};
+ghost use Rattle.machine.specs.Boards.{board};
 
 use board::{Answer, Pending, Shape};
 
@@ -16,7 +17,7 @@ pub fn drop_tag(
     memory: &[u8],
     pending: &mut Pending,
 ) -> Answer
-    ensures { DropTag s (before slots words records cache memory pending.old) result (after slots words records cache memory pending.new) }
+    ensures { DropTag s (board slots.now words.now records.now cache.now memory.now pending.old) result (board slots.now words.now records.now cache.now memory.now pending.new) }
 {
     let t = tag_calls::drop_tag(s, slots, words, records, cache, memory, *pending);
     *pending = t.tag;
@@ -34,7 +35,7 @@ pub fn tag(
     pending: &mut Pending,
     name: u64,
 ) -> Answer
-    ensures { Tag s (before slots words records cache memory pending.old) name result (after slots words records cache memory pending.new) }
+    ensures { Tag s (board slots.now words.now records.now cache.now memory.now pending.old) name result (board slots.now words.now records.now cache.now memory.now pending.new) }
 {
     let t = tag_calls::tag(s, slots, words, records, cache, memory, *pending, name);
     *pending = t.tag;
@@ -52,7 +53,7 @@ pub fn load_and_map(
     pending: &mut Pending,
     line: usize,
 ) -> Answer
-    ensures { LoadAndMap s (before slots words records cache memory pending.old) line result (after slots words records cache memory pending.new) }
+    ensures { LoadAndMap s (board slots.now words.now records.old cache.old memory.old pending.old) line result (board slots.now words.now records.new cache.new memory.new pending.new) }
 {
     let t = load_call::load_and_map(s, slots, words, records, cache, memory, *pending, line);
     *pending = t.tag;

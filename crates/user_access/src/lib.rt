@@ -4,8 +4,9 @@
 ghost use Rattle.std.specs.Prelude.{◌≡◌, true, ◌*◌, ◌≤◌, length};
 ghost use Rattle.address.specs.Layout.{process_slots};
 ghost use Rattle.board.specs.Shapes.{max_processes, fits_shape};
-ghost use Rattle.machine.specs.Clauses.{sets_before, sets_after, UserAccess};
+ghost use Rattle.machine.specs.Clauses.{UserAccess};
 ghost use Rattle.user_access.specs.Checks.{refused_by, slot_check, user_check};
+ghost use Rattle.machine.specs.Boards.{sets_board};
 
 use address::{Effective, Global};
 use board::{Answer, PROCESS_SLOTS, Pending, Shape, numbered};
@@ -88,7 +89,7 @@ pub fn fitting_access(
     e: Effective,
 ) -> Answer
     requires { fits_shape s (length slots.now) (length words.now) (length records.old) (length cache.old) (length memory.old) (length uses.old) ≡ true }
-    ensures { UserAccess s (sets_before slots words records cache memory uses tag) process a e result (sets_after slots words records cache memory uses tag) }
+    ensures { UserAccess s (sets_board slots.now words.now records.old cache.old memory.old uses.old tag) process a e result (sets_board slots.now words.now records.new cache.new memory.new uses.new tag) }
 {
     match user_check(s, slots, tag, process, a, e) {
         Check::Refuse(n) => numbered(n),
@@ -112,7 +113,7 @@ pub fn user_access(
     a: Access,
     e: Effective,
 ) -> Answer
-    ensures { UserAccess s (sets_before slots words records cache memory uses tag) process a e result (sets_after slots words records cache memory uses tag) }
+    ensures { UserAccess s (sets_board slots.now words.now records.old cache.old memory.old uses.old tag) process a e result (sets_board slots.now words.now records.new cache.new memory.new uses.new tag) }
 {
     if board::fits(
         s,

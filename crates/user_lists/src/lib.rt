@@ -3,9 +3,9 @@
 
 ghost use Rattle.std.specs.Prelude.{◌≡◌, true, ◌+◌, ◌*◌, ◌≤◌, eqb, length};
 ghost use Rattle.board.specs.Shapes.{fits_shape};
-ghost use Rattle.machine.specs.Boards.{outcome};
+ghost use Rattle.machine.specs.Boards.{outcome, sets_board};
 ghost use Rattle.machine.specs.Lists.{access_words, ask_at, asks_from, answered, access_on, one_by_one};
-ghost use Rattle.machine.specs.Clauses.{sets_before, sets_after, UserAccesses};
+ghost use Rattle.machine.specs.Clauses.{UserAccesses};
 ghost use Rattle.crossing.specs.Packing.{unpacked, unpacked_all};
 ghost use Rattle.user_lists.specs.Asks.{ask_of};
 
@@ -63,7 +63,7 @@ fn one_access(
     i: usize,
 ) -> u64
     requires { (fits_shape s (length slots.now) (length words.now) (length records.old) (length cache.old) (length memory.old) (length uses.old) ≡ true) × (access_words * i + access_words ≤ length accesses.now) }
-    ensures { outcome (unpacked result) (sets_after slots words records cache memory uses tag) ≡ access_on s (sets_before slots words records cache memory uses tag) (ask_at accesses.now i) }
+    ensures { outcome (unpacked result) (sets_board slots.now words.now records.new cache.new memory.new uses.new tag) ≡ access_on s (sets_board slots.now words.now records.old cache.old memory.old uses.old tag) (ask_at accesses.now i) }
 {
     let k = ask_at(accesses, i);
     let a = k.access;
@@ -88,7 +88,7 @@ fn all_accesses(
     answers: &mut [u64],
 )
     requires { (fits_shape s (length slots.now) (length words.now) (length records.old) (length cache.old) (length memory.old) (length uses.old) ≡ true) × (length accesses.now ≡ access_words * length answers.old) }
-    ensures { answered (unpacked_all answers.new) (sets_after slots words records cache memory uses tag) ≡ one_by_one s (sets_before slots words records cache memory uses tag) (asks_from accesses.now 0 (length answers.old)) }
+    ensures { answered (unpacked_all answers.new) (sets_board slots.now words.now records.new cache.new memory.new uses.new tag) ≡ one_by_one s (sets_board slots.now words.now records.old cache.old memory.old uses.old tag) (asks_from accesses.now 0 (length answers.old)) }
 {
     let mut i: usize = 0;
     while i < answers.len() {
@@ -120,7 +120,7 @@ pub fn user_accesses(
     accesses: &[u32],
     answers: &mut [u64],
 ) -> Answer
-    ensures { UserAccesses s (sets_before slots words records cache memory uses tag) accesses.now (unpacked_all answers.old) result (answered (unpacked_all answers.new) (sets_after slots words records cache memory uses tag)) }
+    ensures { UserAccesses s (sets_board slots.now words.now records.old cache.old memory.old uses.old tag) accesses.now (unpacked_all answers.old) result (answered (unpacked_all answers.new) (sets_board slots.now words.now records.new cache.new memory.new uses.new tag)) }
 {
     if board::fits(
         s,

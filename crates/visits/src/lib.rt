@@ -7,11 +7,11 @@ ghost use Rattle.address.specs.Layout.{page_end};
 ghost use Rattle.board.specs.Shapes.{max_frames};
 ghost use Rattle.lines.specs.Holds.{sets_of, set_at, first_at};
 ghost use Rattle.stores.specs.Premises.{Sized};
-ghost use Rattle.stores.specs.Lent.{store_before, store_after};
 ghost use Rattle.ranges.specs.Ranges.{page_names};
 ghost use Rattle.ranges.specs.Places.{HasPlace, Inside};
 ghost use Rattle.ranges.specs.declared.Names.TheVariants.{One, Two};
 ghost use Rattle.visits.specs.Visits.{visit, map_visit, unmap_visit, protect_visit, move_visit, flush_visit, treated, visited, sweep, visited_all};
+ghost use Rattle.stores.specs.Stores.{store};
 
 use board::Shape;
 use ranges::{Names, Range, Run};
@@ -102,7 +102,7 @@ pub fn of_flush() -> Visit
 // Does the deed to the line of record `i`.
 fn treat(s: Shape, records: &mut [u64], cache: &[u8], memory: &mut [u8], i: usize, d: Deed)
     requires { Sized s records.old cache.now memory.old × (i < s.lines) }
-    ensures { store_after records cache memory ≡ treated s d i (store_before records cache memory) }
+    ensures { store records.new cache.now memory.new ≡ treated s d i (store records.old cache.now memory.old) }
 {
     match d {
         Deed::Drop => {
@@ -121,7 +121,7 @@ fn treat(s: Shape, records: &mut [u64], cache: &[u8], memory: &mut [u8], i: usiz
 // Visits record `i`, whose place is one of the names' (asked so that no other record is visited): only a held line of theirs changes.
 fn visit_line(s: Shape, records: &mut [u64], cache: &[u8], memory: &mut [u8], i: usize, v: Visit)
     requires { Sized s records.old cache.now memory.old × (i < s.lines) × HasPlace (sets_of s) v.names (set_at s i) }
-    ensures { store_after records cache memory ≡ visited s v i (store_before records cache memory) }
+    ensures { store records.new cache.now memory.new ≡ visited s v i (store records.old cache.now memory.old) }
 {
     let l = lines::line_at(records, i);
     let names = v.names;
@@ -136,7 +136,7 @@ fn visit_line(s: Shape, records: &mut [u64], cache: &[u8], memory: &mut [u8], i:
 // Visits the records of a run of places of the names.
 fn visit_run(s: Shape, records: &mut [u64], cache: &[u8], memory: &mut [u8], v: Visit, run: Run)
     requires { Sized s records.old cache.now memory.old × (run.start ≤ run.end) × (run.end ≤ sets_of s) × Inside (sets_of s) v.names run }
-    ensures { store_after records cache memory ≡ sweep (visited s v) (first_at s (run.end - run.start)) (first_at s run.start) (store_before records cache memory) }
+    ensures { store records.new cache.now memory.new ≡ sweep (visited s v) (first_at s (run.end - run.start)) (first_at s run.start) (store records.old cache.now memory.old) }
 {
     let end = lines::first_at(s, run.end);
     let mut i = lines::first_at(s, run.start);
@@ -149,7 +149,7 @@ fn visit_run(s: Shape, records: &mut [u64], cache: &[u8], memory: &mut [u8], v: 
 // Visits the places of the names, run by run and by rising record: no other record can hold a line of theirs.
 pub fn visit_names(s: Shape, records: &mut [u64], cache: &[u8], memory: &mut [u8], v: Visit)
     requires { Sized s records.old cache.now memory.old }
-    ensures { store_after records cache memory ≡ visited_all s v (store_before records cache memory) }
+    ensures { store records.new cache.now memory.new ≡ visited_all s v (store records.old cache.now memory.old) }
 {
     let sets = lines::sets_of(s);
     let names = v.names;

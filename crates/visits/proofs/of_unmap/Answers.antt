@@ -1,0 +1,5 @@
+-- `of_unmap` is what `of_page` gives of its deed.
+use Rattle.visits.proofs.of_unmap.Goals as goal
+
+pub returns : goal.returns
+returns c = c.of_page.ensures
