@@ -1,0 +1,13 @@
+-- `load_check` asks the line and the tag, then the home.
+use Rattle.load_call.proofs.Loads.{check-outside, check-empty, check-home}
+use borrow.Author.Rules.{rules}
+use Rattle.load_call.proofs.load_check.Goals as goal
+
+pub returns-then-line-s : goal.returns-then-line-s
+returns-then-line-s c = search (rules, check-outside)
+
+pub returns-then-pending : goal.returns-then-pending
+returns-then-pending c = search (rules, check-home)
+
+pub returns : goal.returns
+returns c = search (rules, check-empty)

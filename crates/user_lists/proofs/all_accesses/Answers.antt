@@ -1,0 +1,34 @@
+-- `all_accesses`: after i turns the answers so far, and what the rest leaves, are what the whole list leaves.
+use Prim.Native.Nat.{◌-◌}
+use mathlib.Core.Path.{refl}
+use Rattle.user_lists.proofs.Lists.{kept-fit, list-start, list-more, list-end}
+use borrow.Author.Rules.{rules}
+use Rattle.user_lists.proofs.all_accesses.Goals as goal
+
+pub loop-i-init : goal.loop-i-init
+loop-i-init c = (search rules, refl, refl, refl, refl, refl, search (rules, list-start))
+
+pub one_access-x-requires : goal.one_access-x-requires
+one_access-x-requires c = (search (rules, kept-fit), search rules)
+
+pub offset_bounds-answers-i : goal.offset_bounds-answers-i
+offset_bounds-answers-i c = let g = c.well-formed.1.1.1.1.1.1.1 in search (rules, g)
+-- FIX: no step well-formed -- (λ c. let g = c.before.before.before.before.before.before.before.before.before.before.before.before.before.before.before.before.before.before.before.before.before.well-formed.1.1.1.1.1.1.1 in search (rules, g))
+
+pub overflow_add-i : goal.overflow_add-i
+overflow_add-i c = let g = c.well-formed.1.1.1.1.1.1.1 in search (rules, g)
+-- FIX: no step well-formed -- (λ c. let g = c.before.before.before.before.before.before.before.before.before.before.before.before.before.before.before.before.before.before.before.before.before.well-formed.1.1.1.1.1.1.1 in search (rules, g))
+
+pub loop-i-preserved : goal.loop-i-preserved
+loop-i-preserved c = let l = c.loop-i.invariant in (
+      search rules,
+      search rules,
+      search rules,
+      search rules,
+      search rules,
+      search rules,
+      list-more _ _ _ _ _ _ _ _ _ _ _ _ _ _ _ _ _ _ l.6 (search rules) l.4 c.one_access-x.ensures,
+    )
+
+pub returns : goal.returns
+returns c = let l = c.loop-i.invariant in list-end _ _ _ _ _ _ _ _ _ _ _ _ _ l.6 (search rules) l.4
