@@ -1,5 +1,5 @@
 -- An entry, number by number: what the code puts is what the definition says.
-use Prim.Native.Nat.{ℕ, suc, ◌+◌, ◌-◌, ◌<◌, ◌≤◌}
+use Prim.Native.Nat.{ℕ, suc, ◌-◌, ◌<◌, ◌≤◌}
 use mathlib.Core.Path.{◌≡◌, ◌∙◌, sym, ap}
 use mathlib.Core.Bool.{true, false, not, ◌&&◌, cond}
 use mathlib.Core.List.{List, [], ◌∷◌, ◌++◌}
@@ -9,7 +9,7 @@ use lib.ListN.{length, get_or, take, length-append}
 use lib.Seq.{length-take-le}
 use borrow.Author.Tests.{eq-eqb, ne_eqb, le-leb, lt-leb}
 use Rattle.log_numbers.specs.Reasons.{reason_kind, reason_field}
-use Rattle.log_entries.specs.Entries.{Entered, growing, whole, improper, fields_by_kind, fields_of, is_kind, is_whole, most, number_in, five_of, words_of}
+use Rattle.log_entries.specs.Entries.{growing, whole, improper, fields_by_kind, fields_of, is_kind, is_whole, most, number_in, five_of, words_of}
 use Rattle.log_entries.specs.Enters.{entered_of, EnteredFits}
 use Rattle.log_entries.specs.declared.Entered as declared
 use Rattle.log_entries.specs.declared.Entry.{Entry}

@@ -1,5 +1,5 @@
 -- CR 1: an entry is written as the bytes of its numbers. One that a log can't hold is refused with the field that is wrong, and nothing is written.
-use Rattle.std.specs.Prelude.{ℕ, zero, suc, ◌+◌, cond, List, [], ◌∷◌, ◌++◌, length, take, eqb, ltb, leb}
+use Rattle.std.specs.Prelude.{ℕ, zero, suc, cond, List, [], ◌∷◌, ◌++◌, length, take, eqb, ltb, leb}
 use Rattle.board.specs.Lists.{splice}
 use Rattle.log_numbers.specs.Numbers.{bytes_of}
 use Rattle.log_numbers.specs.Reasons.{reason_none, reason_misfit, reason_kind, reason_field}

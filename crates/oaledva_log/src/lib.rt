@@ -1,4 +1,4 @@
-// A log's reader and writer for C and Rust. A reader is eleven words, an entry six.
+// A log's reader and writer for C and Rust. A reader is eleven words, an entry six. `oaledva_log_c` exports the four calls.
 #![tactic(auto)]
 
 ghost use Rattle.std.specs.Prelude.{◌≡◌, cond, ◌+◌, ◌≤◌, ltb, length};
@@ -110,8 +110,7 @@ fn put_reader(r: Reader, words: &mut [u64])
 }
 
 // Reads a piece of a log: whole entries into a list, six words for each.
-#[unsafe(no_mangle)]
-pub extern "C" fn oaledva_log_read(state: &mut [u64], piece: &[u8], entries: &mut [u64]) -> u64
+pub fn oaledva_log_read(state: &mut [u64], piece: &[u8], entries: &mut [u64]) -> u64
     ensures { read result state.new entries.new ≡ log_read state.old piece.now entries.old }
 {
     if state.len() == READER_WORDS {
@@ -131,8 +130,7 @@ pub extern "C" fn oaledva_log_read(state: &mut [u64], piece: &[u8], entries: &mu
 }
 
 // Why a log is refused, if it has ended here or not.
-#[unsafe(no_mangle)]
-pub extern "C" fn oaledva_log_reason(state: &[u64], ended: u32) -> u64
+pub fn oaledva_log_reason(state: &[u64], ended: u32) -> u64
     ensures { result ≡ log_reason state.now (is_yes ended) }
 {
     if state.len() == READER_WORDS {
@@ -146,8 +144,7 @@ pub extern "C" fn oaledva_log_reason(state: &[u64], ended: u32) -> u64
 }
 
 // And where.
-#[unsafe(no_mangle)]
-pub extern "C" fn oaledva_log_place(state: &[u64]) -> u64
+pub fn oaledva_log_place(state: &[u64]) -> u64
     ensures { result ≡ log_place state.now }
 {
     if state.len() == READER_WORDS {
@@ -161,8 +158,7 @@ pub extern "C" fn oaledva_log_place(state: &[u64]) -> u64
 }
 
 // Writes an entry at the front of a buffer.
-#[unsafe(no_mangle)]
-pub extern "C" fn oaledva_log_write(entry: &[u64], bytes: &mut [u8]) -> u64
+pub fn oaledva_log_write(entry: &[u64], bytes: &mut [u8]) -> u64
     ensures { written (wrote_in result) bytes.new ≡ log_write entry.now bytes.old }
 {
     if entry.len() == ENTRY_WORDS {
