@@ -33,6 +33,8 @@ use Rattle.example_runs.proofs.Values.{holding_four, fits-here, refuses, does-lo
 ran-list : (s : Shape) (b c : Board) (ks : List Asked) (l : List Answer) → Ran s b (map as_call ks) l c → one_by_one s b ks ≡ answered l c
 unfolding one_by_one step
 ran-list s b c [] [] ended = refl
+ran-list s b c [] (a ∷ l) x = elim x [ ]
+ran-list s b c (k ∷ ks) [] x = elim x [ ]
 ran-list s b c (k ∷ ks) (a ∷ l) (◌then◌ {c = c₁} x r) = let e = x.does in rw (e, ran-list s c₁ c ks l r)
 
 fifty : fits_board shape (holding_four memory2 0 0 0 50) ≡ true

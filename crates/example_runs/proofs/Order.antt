@@ -347,8 +347,8 @@ sound-four = sound-bare (two_processes four_lines) (own_pages four_lines) (fresh
 pub order-examples : OrderExamples
 unfolding ones ones_in mark_of part splice first edition_holds matrices_of fits_shape lowest_from lowest_frame mapped_to home_by home_of number digits stored line_of with_line zeros cleared used ones_of fewer fewest line_at put_line holds_line holds_at holds_name holder_of is_empty victim_by victim_at used_in record_by written_back filled noted inserted performed_at way_by_home way_by way_of unreached may_write by_table too_large aligned_to is_mapped performed_on accessed_by uses_by accessed user_table user_access board.attach ran gained supervise step answers asks_from turn_calls calls_of bringing
 order-examples = record {
-  one_line = example-of one_line sound-one refl refl;
-  four_lines = example-of four_lines sound-four refl refl;
+  one_line_lem = example-of one_line sound-one refl refl;
+  four_lines_lem = example-of four_lines sound-four refl refl;
   lists_one_line = lists_of one_line sound-one refl refl;
   lists_four_lines = lists_of four_lines sound-four refl refl;
   broken_one_line = broken-of one_line sound-one refl refl refl;

@@ -113,8 +113,8 @@ pub record ExampleLists (edition : Edition) : Type 0 where
   pub promised : SameOfLists (two_processes edition) (own_pages edition) (lists_e (two_processes edition)) (lists_f (two_processes edition)) reordering.places.to
 
 pub record OrderExamples : Type 0 where
-  pub one_line : ExampleOrder one_line
-  pub four_lines : ExampleOrder four_lines
+  pub one_line_lem : ExampleOrder one_line
+  pub four_lines_lem : ExampleOrder four_lines
   pub lists_one_line : ExampleLists one_line
   pub lists_four_lines : ExampleLists four_lines
   pub broken_one_line : BrokenOrder one_line

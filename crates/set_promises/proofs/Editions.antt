@@ -94,8 +94,8 @@ places_of_four = record {
 
 pub editions : Editions
 editions = record {
-  one_line = demands one_line;
-  four_lines = demands four_lines;
+  one_line_lem = demands one_line;
+  four_lines_lem = demands four_lines;
   places_of_one = places_of_one;
   places_of_four = places_of_four;
   other_refusals_stay = twins-same;

@@ -1,6 +1,6 @@
 -- The plain machines of the two editions go in step: their tables differ in number 1 only, which applies to neither.
 use Prim.Native.Nat.{ℕ}
-use mathlib.Core.Path.{◌≡◌, refl, sym, ◌∙◌}
+use mathlib.Core.Path.{◌≡◌, refl, sym, ◌∙◌, subst}
 use mathlib.Core.Bool.{Bool, true, false, cond}
 use mathlib.Core.List.{List, ◌∷◌}
 use lib.ListN.{length, length-set}
@@ -125,7 +125,7 @@ module _ (f u n l : ℕ) where
       paired-step (supervisor c) = paired-supervise c
 
   paired : (p q : Plain) → InStep p q → (k : Call) → Paired (plain_step one p k) (plain_step four q k)
-  paired p q h k = rw h.same_rest (paired-step p q.records_length q.cache_length q.uses_length h.fits_one (rw (← h.same_rest) h.fits_four) k)
+  paired p q h k = rw h.same_rest (paired-step p q.records_length q.cache_length q.uses_length h.fits_one (subst (λ (x : Plain). (plain_row1 four x).applies ≡ false) h.same_rest h.fits_four) k)
 
   plain-same : (p q : Plain) → InStep p q → (ks : List Call) → plain_replies one p ks ≡ plain_replies four q ks
   plain-same p q h ks =

@@ -124,8 +124,8 @@ pub record Twins (f u p l : ℕ) (b c : Board) : Type 0 where
   pub same_tag : b.tag ≡ c.tag
 
 pub record Editions : Type 0 where
-  pub one_line : Demands one_line
-  pub four_lines : Demands four_lines
+  pub one_line_lem : Demands one_line
+  pub four_lines_lem : Demands four_lines
   pub places_of_one : OneLine
   pub places_of_four : FourLines
   -- "Other refusals stay": on two such boards every run gives the same numbers and values
