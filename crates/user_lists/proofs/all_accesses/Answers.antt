@@ -11,14 +11,6 @@ loop-i-init c = (search rules, refl, refl, refl, refl, refl, search (rules, list
 pub one_access-x-requires : goal.one_access-x-requires
 one_access-x-requires c = (search (rules, kept-fit), search rules)
 
-pub offset_bounds-answers-i : goal.offset_bounds-answers-i
-offset_bounds-answers-i c = let g = c.well-formed.1.1.1.1.1.1.1 in search (rules, g)
--- FIX: no step well-formed -- (λ c. let g = c.before.before.before.before.before.before.before.before.before.before.before.before.before.before.before.before.before.before.before.before.before.well-formed.1.1.1.1.1.1.1 in search (rules, g))
-
-pub overflow_add-i : goal.overflow_add-i
-overflow_add-i c = let g = c.well-formed.1.1.1.1.1.1.1 in search (rules, g)
--- FIX: no step well-formed -- (λ c. let g = c.before.before.before.before.before.before.before.before.before.before.before.before.before.before.before.before.before.before.before.before.before.well-formed.1.1.1.1.1.1.1 in search (rules, g))
-
 pub loop-i-preserved : goal.loop-i-preserved
 loop-i-preserved c = let l = c.loop-i.invariant in (
       search rules,
