@@ -1,4 +1,2 @@
 -- The laws of this crate that proofs cite.
 pub mod Upto
-pub mod Values
-pub mod Again

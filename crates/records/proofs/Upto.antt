@@ -3,7 +3,6 @@ use Prim.Native.Nat.{ℕ, zero, suc, ◌+◌, ◌≤◌, ◌<◌}
 use mathlib.Core.Path.{◌≡◌, refl, ◌∙◌, ap}
 use mathlib.Core.Bool.{Bool, true, false, cond}
 use mathlib.Core.List.{List, [], ◌∷◌}
-use mathlib.Core.Logic.{◌⊎◌, inl, inr}
 use native.Mathlib.Omega.{arith}
 use lib.ListN.{length, get_or, set}
 use Rattle.board.specs.declared.Shape.{Shape}
@@ -12,12 +11,6 @@ use Rattle.visits.specs.declared.Visit.{Visit}
 use Rattle.record_steps.specs.Lent.{line_visited, lines_visited, line_flushed, flushed_memory}
 use Rattle.record_steps.specs.Checks.{turns_when}
 use Rattle.record_steps.proofs.Single.{length-flushed}
-
-pub less-or-same : (i n : ℕ) → i ≤ n → (i < n) ⊎ (i ≡ n)
-less-or-same zero zero l = inr refl
-less-or-same zero (suc n) l = inl (omega arith)
-less-or-same (suc i) zero l = absurd (omega arith)
-less-or-same (suc i) (suc n) l = elim (less-or-same i n (omega arith)) [ inl a ↦ inl (omega arith) | inr e ↦ inr (ap suc e) ]
 
 -- ---- the lines: the first k of those from line i on were visited
 
@@ -68,6 +61,19 @@ module _ (s : Shape) (v : Visit) where
   upto-turns true ls = upto_all 0 ls
   upto-turns false ls = upto-none 0 ls
 
+  -- of the lines as the loop has them: a turn, and the end
+  pub walked-more : (k : ℕ) (ls now : List Line) (d r : Line) → now ≡ visited_upto 0 k ls → k < length ls → r ≡ line_visited s v k (get_or now k d)
+      → set now k r ≡ visited_upto 0 (k + 1) ls
+  walked-more k ls now d r w h e =
+      let f : k + 1 ≡ suc k = omega arith in
+      rw (f, w) (upto-set k ls d r h (e ∙ ap (λ (ys : List Line). line_visited s v k (get_or ys k d)) w))
+
+  pub walked-all : (t : Bool) (k n : ℕ) (ls now : List Line) → now ≡ visited_upto 0 k ls → n ≡ turns_when t (length ls) → k ≤ n → n ≤ k
+      → now ≡ cond t (lines_visited s v 0 ls) ls
+  walked-all t k n ls now w e l h =
+      let f : k ≡ turns_when t (length ls) = omega arith in
+      w ∙ (ap (λ (m : ℕ). visited_upto 0 m ls) f ∙ upto-turns t ls)
+
 -- ---- memory: the first k of the lines from line i on were flushed
 
 module _ (s : Shape) (cache : List ℕ) where
@@ -106,3 +112,16 @@ module _ (s : Shape) (cache : List ℕ) where
   pub memory-turns : (t : Bool) (ls : List Line) (memory : List ℕ) → memory_upto 0 (turns_when t (length ls)) ls memory ≡ cond t (flushed_memory s 0 ls cache memory) memory
   memory-turns true ls memory = memory-all 0 ls memory
   memory-turns false ls memory = memory-none 0 ls memory
+
+  -- of memory as the loop has it: a turn, and the end
+  pub flushed-more : (v : Visit) (k : ℕ) (ls now : List Line) (memory bytes : List ℕ) (d : Line) → now ≡ visited_upto s v 0 k ls → bytes ≡ memory_upto 0 k ls memory
+      → k < length ls → line_flushed s k (get_or now k d) cache bytes ≡ memory_upto 0 (k + 1) ls memory
+  flushed-more v k ls now memory bytes d w b h =
+      let f : k + 1 ≡ suc k = omega arith in
+      rw (f, w, b) (memory-more v k ls memory d h)
+
+  pub flushed-all : (t : Bool) (k n : ℕ) (ls : List Line) (memory bytes : List ℕ) → bytes ≡ memory_upto 0 k ls memory → n ≡ turns_when t (length ls) → k ≤ n → n ≤ k
+      → bytes ≡ cond t (flushed_memory s 0 ls cache memory) memory
+  flushed-all t k n ls memory bytes b e l h =
+      let f : k ≡ turns_when t (length ls) = omega arith in
+      b ∙ (ap (λ (m : ℕ). memory_upto 0 m ls memory) f ∙ memory-turns t ls memory)

@@ -1,2 +1,0 @@
--- The laws of this crate that proofs cite.
-pub mod Arrays
