@@ -32,14 +32,14 @@ use Rattle.dump_lines.proofs.Homes.{frame-tells}
 -- ---- two lines
 
 -- two lists that pass are equal
-pub same_list : (a b : List ℕ) → same_list a b ≡ true → a ≡ b
+pub same_list_lem : (a b : List ℕ) → same_list a b ≡ true → a ≡ b
 unfolding same_list
-same_list [] [] e = refl
-same_list [] (y ∷ ys) e = clash false e refl
-same_list (x ∷ xs) [] e = clash false e refl
-same_list (x ∷ xs) (y ∷ ys) e =
+same_list_lem [] [] e = refl
+same_list_lem [] (y ∷ ys) e = clash false e refl
+same_list_lem (x ∷ xs) [] e = clash false e refl
+same_list_lem (x ∷ xs) (y ∷ ys) e =
     let a : x ≡ y = eqb-true x y (and_left (eqb x y) (same_list xs ys) e) in
-    let b : xs ≡ ys = same_list xs ys (and_right (eqb x y) (same_list xs ys) e) in rw (a, b)
+    let b : xs ≡ ys = same_list_lem xs ys (and_right (eqb x y) (same_list xs ys) e) in rw (a, b)
 
 pub list_same : (a : List ℕ) → same_list a a ≡ true
 unfolding same_list
@@ -55,7 +55,7 @@ module _ (a b : List ℕ) (i j : ℕ) where
   same-line-not k h n = go (same_list (line_of a i) (line_of b j)) refl
     where
       go : (t : Bool) → same_list (line_of a i) (line_of b j) ≡ t → false ≡ t
-      go true e = absurd (n (line-at a b i j k (same_list (line_of a i) (line_of b j) e) h))
+      go true e = absurd (n (line-at a b i j k (same_list_lem (line_of a i) (line_of b j) e) h))
       go false e = refl
 
 -- ---- a record against rules 4 and 5

@@ -28,7 +28,7 @@ use Rattle.dump_pages.specs.Pages.{page_at, doubled_page}
 use Rattle.dump_pages.proofs.Pages.{if-key, page-names, names-page}
 use Rattle.dump_lines.specs.Lines.{same_list, held_line, doubled_line, home_is, at_home, astray, stale, breaks_alone}
 use Rattle.dump_lines.proofs.Homes.{home-is, is_home}
-use Rattle.dump_lines.proofs.Lines.{same_list, list_same}
+use Rattle.dump_lines.proofs.Lines.{same_list_lem, list_same}
 use Rattle.dump_promises.specs.Checker.{Names, PageTwice, LineTwice, Astray, Stale}
 
 -- a test that is passed, and one that is not
@@ -137,7 +137,7 @@ module _ (s : Shape) (words : List ℕ) (x : Store) (i : ℕ) where
   pub is-stale : Stale s x i → stale s x i ≡ true
   unfolding stale
   is-stale a =
-      let n : same_list (line_of x.cache i) (line_of x.memory (line_at x.records i).physical) ≡ false = decided _ (λ h. a.differs (same_list _ _ h)) in
+      let n : same_list (line_of x.cache i) (line_of x.memory (line_at x.records i).physical) ≡ false = decided _ (λ h. a.differs (same_list_lem _ _ h)) in
       both (holds_at s x.records i) _ a.here (rw (a.unchanged, n))
 
   -- a held line that breaks neither
@@ -149,7 +149,7 @@ module _ (s : Shape) (words : List ℕ) (x : Store) (i : ℕ) where
   pub equal_of : stale s x i ≡ false → holds_at s x.records i ≡ true → (line_at x.records i).changed ≡ false
       → line_of x.cache i ≡ line_of x.memory (line_at x.records i).physical
   unfolding stale
-  equal_of e h c = same_list _ _ (not-false _ (rw (h, c) at e))
+  equal_of e h c = same_list_lem _ _ (not-false _ (rw (h, c) at e))
 
 module _ (s : Shape) (words : List ℕ) (x : Store) (size : length x.records ≡ 2 * s.lines) where
   pub lines_mapped : first (astray s (home_of s words) x) 0 s.lines ≡ Nothing → LinesMapped s words x

@@ -1,0 +1,7 @@
+-- `plant` leaves an empty tree.
+use borrow.Author.Rules.{rules}
+use Rattle.doubles.proofs.Trees.{tree-empty}
+use Rattle.doubles.proofs.plant.Goals as goal
+
+pub returns : goal.returns
+returns c = search (rules, tree-empty)
