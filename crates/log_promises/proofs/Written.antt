@@ -99,9 +99,9 @@ log-bytes s ks = bytes-more (header_numbers s) (numbers_of ks) ∙ ap (λ (l : L
 -- calls come to their entries
 calls-come : {ns : List ℕ} {es : List (List ℕ)} (ks : List Call) → AllLoggable ks → Come ns es [] → Come (ns ++ numbers_of ks) (es ++ entries_of ks) []
 unfolding entries_of
-calls-come {ns} {es} [] Calls.none c = rw (append-nil ns, append-nil es) c
-calls-come {ns} {es} (k ∷ ks) (Calls.also f all) c =
-    rw (append_assoc ns (entry_of k) (numbers_of ks), append_snoc es (entry_of k) (entries_of ks)) at (calls-come ks all (entry-comes (call-entry k f) c))
+calls-come {ns = ns} {es = es} [] Calls.none c = rw (append-nil ns, append-nil es) c
+calls-come {ns = ns} {es = es} (k ∷ ks) (Calls.also f all) c =
+    rw (append_assoc ns (entry_of k) (numbers_of ks), append_snoc es (entry_of k) (entries_of ks)) at (calls-come {ns = ns ++ entry_of k} {es = es ++ entry_of k ∷ []} ks all (entry-comes (call-entry k f) c))
 
 -- and a log to its own
 log-comes : (s : Shape) (ks : List Call) → LoggableShape s → AllLoggable ks → Come (log_numbers s ks) (header_of s ∷ entries_of ks) []
