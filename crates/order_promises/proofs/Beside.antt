@@ -16,7 +16,8 @@ use Rattle.order_promises.specs.Order.{SameShown, SameOnward, Swapped, SameReord
 use Rattle.order_promises.proofs.Turns.{Every, every-both, every_take, every-at, every-from, ran-place}
 use Rattle.order_promises.proofs.Reorder.{Swaps, Same, same}
 use Rattle.order_promises.proofs.Strangers.{reply-same, after_same, slots_same}
-use Rattle.order_promises.proofs.Reorderings.{cross-other, cross-first, cross-second, Cross, Stays, call-at, moves}
+use Rattle.order_promises.proofs.Crossings.{cross-other}
+use Rattle.order_promises.proofs.Reorderings.{cross-first, cross-second, Cross, Stays, call-at, moves}
 
 -- ---- the plain machine is one in which accesses by strangers may be swapped, whatever numbers they bring
 

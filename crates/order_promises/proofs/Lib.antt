@@ -1,5 +1,6 @@
 pub mod Turns
 pub mod Strangers
+pub mod Crossings
 pub mod Reorder
 pub mod Reorderings
 pub mod Slots

@@ -9,26 +9,10 @@ use Rattle.machine.specs.Boards.{Board}
 use Rattle.promises.specs.Runs.{ran, Call, user, supervisor, flush_all}
 use Rattle.order_promises.specs.Strangers.{MayCross, is_supervisors, Kind, board_after, board_at, call_at}
 use Rattle.order_promises.specs.Reorderings.{Reordering}
+use Rattle.order_promises.proofs.Crossings.{cross-stable, cross-other}
 use Rattle.order_promises.proofs.Reorder.{Swaps, Moves}
 
 -- ---- who may cross
-
--- it is settled by whether they may not, and it is the same of both
-pub cross-stable : (slots : List ℕ) (k l : Call) → ((MayCross slots k l → ⊥) → ⊥) → MayCross slots k l
-cross-stable slots (user p a e) (user q c f) h = record {
-  differ = λ x. h (λ z. z.differ x);
-  first_alone = λ segment x y. h (λ z. z.first_alone segment x y);
-  second_alone = λ segment x y. h (λ z. z.second_alone segment x y);
-}
-cross-stable slots (user p a e) (supervisor d) h = h (λ z. z)
-cross-stable slots (supervisor c) (user q d f) h = h (λ z. z)
-cross-stable slots (supervisor c) (supervisor d) h = h (λ z. z)
-
-pub cross-other : (slots : List ℕ) (k l : Call) → MayCross slots k l → MayCross slots l k
-cross-other slots (user p a e) (user q c f) x = record { differ = λ e. x.differ (sym e); first_alone = x.second_alone; second_alone = x.first_alone }
-cross-other slots (user p a e) (supervisor d) x = absurd x
-cross-other slots (supervisor c) (user q d f) x = absurd x
-cross-other slots (supervisor c) (supervisor d) x = absurd x
 
 -- neither of them is a supervisor's
 pub cross-first : (slots : List ℕ) (k l : Call) → MayCross slots k l → is_supervisors k ≡ false

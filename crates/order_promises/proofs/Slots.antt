@@ -20,7 +20,8 @@ use Rattle.order_promises.specs.Strangers.{is_supervisors, Kind, calls, call_of,
 use Rattle.order_promises.specs.Reorderings.{Reordering, BySwaps, none, one_more, ReorderingsAre}
 use Rattle.order_promises.proofs.Turns.{ran-one, ran-place}
 use Rattle.order_promises.proofs.Reorder.{Swaps, Moves, Same, same, Reached, same_list, swap_front, after_first, one_then, reached}
-use Rattle.order_promises.proofs.Reorderings.{Cross, Stays, cross-first, cross-second, cross-other, call-at, moves, reordering-none, reordering-at}
+use Rattle.order_promises.proofs.Crossings.{cross-other}
+use Rattle.order_promises.proofs.Reorderings.{Cross, Stays, cross-first, cross-second, call-at, moves, reordering-none, reordering-at}
 
 module _ {T : Type 0} (w : Kind T) (filler : T) (filler-call : w.call filler ≡ supervisor flush_all) (b : Board) (next : List ℕ → T → List ℕ)
     (keeps : (slots : List ℕ) (k : T) → is_supervisors (w.call k) ≡ false → next slots k ≡ slots)
