@@ -1,5 +1,5 @@
 // Protect and flush all over a lent slice, on two lines by value: each puts the lines into a local, calls through a slice of it,
-// and gives back the answer and what stands there. Whoever calls one needs no walk.
+// and gives back the answer and what stands there.
 #![tactic(auto)]
 
 ghost use Rattle.record_steps.specs.Lent.{lent_board};

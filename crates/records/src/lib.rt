@@ -1,4 +1,4 @@
-// Line records as a lent slice of structs: protect and flush all decide by covered functions and walk the slice, and each line
+// Line records as a lent slice of structs: protect and flush all decide before the lines and walk the slice, and each line
 // goes by value through a function that says what happens to one line.
 #![tactic(auto)]
 

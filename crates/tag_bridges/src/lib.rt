@@ -1,5 +1,5 @@
 // The calls on the tag behind a reference, by value: each puts the tag into a local, calls through a reference to it, and gives
-// back what stands there. Whoever calls one needs no walk.
+// back what stands there.
 #![tactic(auto)]
 
 ghost use Rattle.machine.specs.Clauses.{Tag, LoadAndMap, DropTag};

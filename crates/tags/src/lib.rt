@@ -1,5 +1,5 @@
 // The pending tag as a small record changed in place: tag, load-and-map and drop tag take a mutable reference to it.
-// Each reads the record, calls the covered call by value, writes the tag back and gives the answer.
+// Each reads the record, calls the call by value, writes the tag back and gives the answer.
 #![tactic(auto)]
 
 ghost use Rattle.machine.specs.Clauses.{Tag, LoadAndMap, DropTag};
