@@ -6,23 +6,28 @@ PREFIX ?= /usr/local
 
 # Proves what the session needs, runs 01's session and prints its table.
 session:
-	rt check session
+	@mkdir -p target/log
+	cd crates/session && rt run >../../target/log/session.stdout
 	@cat target/log/session.stdout
+	@cmp crates/session/stdout target/log/session.stdout
 
-# The program that replays a log: target/bin/replay.
+# The program that replays a log: target/bin/replay. It is proved and built, and replays the session's log as it has to.
 replay:
-	rt check replay
+	@mkdir -p target/log target/bin
+	cd crates/replay && rt run -- data/session.log >../../target/log/replay.stdout
+	@cmp crates/replay/stdout target/log/replay.stdout
+	@install crates/replay/out/replay target/bin/replay
 	@echo 'target/bin/replay LOG'
 
 # The static library, proved: target/lib/liboaledva.a. The toolchain writes an archive for each crate that exports: user access,
 # lists of it and the other calls, for a cache with one place for each line and for one with sets of four; logs; and the checker and the
 # repair of dumped boards. Their pieces go into one, each as it is. On another processor than x86-64, AR names an ar for x86-64.
-PIECES = oaledva oaledva_user oaledva_list oaledva_sets oaledva_sets_user oaledva_sets_list oaledva_log oaledva_dump
+PIECES = oaledva oaledva_user oaledva_list oaledva_sets oaledva_sets_user oaledva_sets_list oaledva_log_c oaledva_dump
 library:
-	set -e; for piece in $(PIECES); do rt staticlib $$piece; done
+	set -e; for piece in $(PIECES); do (cd crates/$$piece && rt lib); done
 	@mkdir -p target/lib
 	@rm -f target/lib/liboaledva.a
-	@printf '%s\n' 'create target/lib/liboaledva.a' $(PIECES:%='addlib target/staticlib/lib%.a') save end | $(AR) -M
+	@printf '%s\n' 'create target/lib/liboaledva.a' $(foreach piece,$(PIECES),'addlib crates/$(piece)/out/lib$(piece).a') save end | $(AR) -M
 	@echo 'target/lib/liboaledva.a has every call'
 
 # Header, library and a file for pkg-config, below PREFIX (and that below DESTDIR, if it is set).

@@ -268,7 +268,7 @@ fn numbered(declarations: &str) -> Numbers {
 #[test]
 fn the_source_the_header_and_the_crate_declare_the_same() {
     let mut source = Functions::new();
-    for piece in ["", "_user", "_list", "_log", "_dump", "_sets", "_sets_user", "_sets_list"] {
+    for piece in ["", "_user", "_list", "_log_c", "_dump", "_sets", "_sets_user", "_sets_list"] {
         source.extend(of_rattle(&text(&format!("crates/oaledva{piece}/src/lib.rt"))));
     }
     assert_eq!(source.len(), 22 + 15);
