@@ -4,7 +4,7 @@
 
 use address::Effective;
 use board::{Pending, Shape};
-use libc::STDOUT_FILENO;
+use std::io;
 use stores::Access;
 
 // Segment 2048 with its write bit, and page 0x200000 with its own.
@@ -29,9 +29,8 @@ fn shape(frames: usize) -> Shape {
     }
 }
 
-fn write_field(x: u64, end: &[u8]) {
-    io::print_decimal(STDOUT_FILENO, x);
-    io::write_all(STDOUT_FILENO, end);
+fn write_field(rt: &impl Print, x: u64, end: &str) -> io::Result<()> {
+    print!(rt; "{x}{end}")
 }
 
 fn wide(x: u8) -> u64 {
@@ -39,19 +38,19 @@ fn wide(x: u8) -> u64 {
 }
 
 // The bytes of a part, and how many there are.
-fn write_part(part: &[u8]) {
-    io::print_decimal(STDOUT_FILENO, part.len() as u64);
+fn write_part(rt: &impl Print, part: &[u8]) -> io::Result<()> {
+    print!(rt; "{}", part.len())?;
     let mut i: usize = 0;
     while i < part.len() {
-        io::write_all(STDOUT_FILENO, b" ");
-        io::print_decimal(STDOUT_FILENO, wide(part[i]));
+        print!(rt; " {}", wide(part[i]))?;
         i += 1;
     }
-    io::write_all(STDOUT_FILENO, b"\n");
+    println!(rt)
 }
 
 // A look at a line, by a caller who says that there are so many frames.
 fn look<'a>(
+    rt: &impl Print,
     frames: usize,
     slots: &[u32],
     words: &[u64],
@@ -59,7 +58,7 @@ fn look<'a>(
     cache: &'a [u8],
     memory: &'a [u8],
     line: usize,
-) {
+) -> io::Result<()> {
     let none: [[[u8; 4]; 4]; 0] = [];
     let number = line_calls::look_number(
         shape(frames),
@@ -71,22 +70,26 @@ fn look<'a>(
         &none,
         line,
     );
-    write_field(line as u64, b" ");
-    write_field(number as u64, b" ");
-    write_part(line_calls::look(
-        shape(frames),
-        slots,
-        words,
-        records,
-        cache,
-        memory,
-        &none,
-        line,
-    ));
+    write_field(rt, line as u64, " ")?;
+    write_field(rt, number as u64, " ")?;
+    write_part(
+        rt,
+        line_calls::look(
+            shape(frames),
+            slots,
+            words,
+            records,
+            cache,
+            memory,
+            &none,
+            line,
+        ),
+    )
 }
 
 // Process 0 loads or stores a byte, and the page's first line is looked at.
 fn turn(
+    rt: &impl Print,
     slots: &[u32],
     words: &[u64],
     records: &mut [u64],
@@ -94,7 +97,7 @@ fn turn(
     memory: &mut [u8],
     store: bool,
     address: u32,
-) {
+) -> io::Result<()> {
     let mut none: [[[u8; 4]; 4]; 0] = [];
     user_access::user_access(
         shape(4),
@@ -116,46 +119,75 @@ fn turn(
         },
         Effective(address),
     );
-    look(4, slots, words, records, cache, memory, LINE);
+    look(rt, 4, slots, words, records, cache, memory, LINE)
 }
 
 // A byte of a buffer.
-fn write_byte(title: &[u8], bytes: &[u8], at: usize) {
-    io::write_all(STDOUT_FILENO, title);
+fn write_byte(rt: &impl Print, title: &str, bytes: &[u8], at: usize) -> io::Result<()> {
+    print!(rt; "{title}")?;
     if at < bytes.len() {
-        write_field(wide(bytes[at]), b"\n");
+        return write_field(rt, wide(bytes[at]), "\n");
     }
+    Ok(())
 }
 
 // After a store the part is the cache's: memory still has its 7.
-fn stored(slots: &[u32], words: &[u64], records: &mut [u64], cache: &mut [u8], memory: &mut [u8]) {
-    turn(slots, words, records, cache, memory, true, 3);
-    write_byte(b"in memory ", memory, LINE_START + 3);
+fn stored(
+    rt: &impl Print,
+    slots: &[u32],
+    words: &[u64],
+    records: &mut [u64],
+    cache: &mut [u8],
+    memory: &mut [u8],
+) -> io::Result<()> {
+    turn(rt, slots, words, records, cache, memory, true, 3)?;
+    write_byte(rt, "in memory ", memory, LINE_START + 3)
 }
 
 // Flushed, and its place taken by the line at 32: the part is memory's.
-fn flushed(slots: &[u32], words: &[u64], records: &mut [u64], cache: &mut [u8], memory: &mut [u8]) {
+fn flushed(
+    rt: &impl Print,
+    slots: &[u32],
+    words: &[u64],
+    records: &mut [u64],
+    cache: &mut [u8],
+    memory: &mut [u8],
+) -> io::Result<()> {
     let none: [[[u8; 4]; 4]; 0] = [];
     line_calls::flush_all(shape(4), slots, words, records, cache, memory, &none);
-    turn(slots, words, records, cache, memory, false, 32);
-    write_byte(b"in the cache ", cache, 3);
+    turn(rt, slots, words, records, cache, memory, false, 32)?;
+    write_byte(rt, "in the cache ", cache, 3)
 }
 
 // Refused: a line past memory, and a caller who says three frames.
-fn refused<'a>(slots: &[u32], words: &[u64], records: &[u64], cache: &'a [u8], memory: &'a [u8]) {
-    look(4, slots, words, records, cache, memory, PAST);
-    look(3, slots, words, records, cache, memory, LINE);
+fn refused<'a>(
+    rt: &impl Print,
+    slots: &[u32],
+    words: &[u64],
+    records: &[u64],
+    cache: &'a [u8],
+    memory: &'a [u8],
+) -> io::Result<()> {
+    look(rt, 4, slots, words, records, cache, memory, PAST)?;
+    look(rt, 3, slots, words, records, cache, memory, LINE)
 }
 
-fn looks(slots: &[u32], words: &[u64], records: &mut [u64], cache: &mut [u8], memory: &mut [u8]) {
-    stored(slots, words, records, cache, memory);
-    flushed(slots, words, records, cache, memory);
-    refused(slots, words, records, cache, memory);
+fn looks(
+    rt: &impl Print,
+    slots: &[u32],
+    words: &[u64],
+    records: &mut [u64],
+    cache: &mut [u8],
+    memory: &mut [u8],
+) -> io::Result<()> {
+    stored(rt, slots, words, records, cache, memory)?;
+    flushed(rt, slots, words, records, cache, memory)?;
+    refused(rt, slots, words, records, cache, memory)
 }
 
 // The session's board after its first two calls: the page is mapped, and process 0 has its segment, both for writing. But every byte of
 // the cache is 9, and of memory 7.
-fn main() {
+fn main(rt: HostRuntime) -> io::Result<()> {
     let mut slots: [u32; 1024] = [0; 1024];
     let mut words: [u64; 4] = [0; 4];
     slots[0] = SLOT;
@@ -163,6 +195,6 @@ fn main() {
     let mut records: [u64; 4] = [0; 4];
     let mut cache: [u8; 32] = [9; 32];
     let mut memory: [u8; 16384] = [7; 16384];
-    io::write_all(STDOUT_FILENO, b"line number length bytes\n");
-    looks(&slots, &words, &mut records, &mut cache, &mut memory);
+    println!(rt; "line number length bytes")?;
+    looks(&rt, &slots, &words, &mut records, &mut cache, &mut memory)
 }

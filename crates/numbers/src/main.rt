@@ -5,8 +5,8 @@ ghost use Rattle.std.specs.Prelude.{◌≤◌, ◌<◌, ◌^◌};
 
 use address::Effective;
 use board::{LINE_BYTES, PAGE_BYTES, PROCESS_SLOTS, Pending, RECORD_WORDS, Shape};
-use libc::STDOUT_FILENO;
 use slot_calls::attach;
+use std::io;
 use stores::Access;
 use user_access::user_access;
 
@@ -21,17 +21,14 @@ const MOST_PROCESSES: usize = 64;
 const OVER_PROCESSES: usize = 65;
 
 // A number, as a line's end.
-fn write_end(number: u32) {
-    io::print_decimal(STDOUT_FILENO, number as u64);
-    io::write_all(STDOUT_FILENO, b"\n");
+fn write_end(rt: &impl Print, number: u32) -> io::Result<()> {
+    println!(rt; "{number}")
 }
 
 // A count by its name, and the answer, as a line.
-fn write_count(name: &[u8], count: usize, number: u32) {
-    io::write_all(STDOUT_FILENO, name);
-    io::print_decimal(STDOUT_FILENO, count as u64);
-    io::write_all(STDOUT_FILENO, b": ");
-    write_end(number);
+fn write_count(rt: &impl Print, name: &str, count: usize, number: u32) -> io::Result<()> {
+    print!(rt; "{name}{count}: ")?;
+    write_end(rt, number)
 }
 
 // A board of one frame.
@@ -102,7 +99,7 @@ fn attached(processes: usize, lines: usize, slots: &mut [u32], records: &[u64], 
 }
 
 // With one process and this many lines. The call gets as much of the buffers as the count says, so it is the count that is refused.
-fn with_lines(lines: usize, records: &[u64], cache: &[u8])
+fn with_lines(rt: &impl Print, lines: usize, records: &[u64], cache: &[u8]) -> io::Result<()>
     requires { lines < 2 ^ 32 }
 {
     let r = RECORD_WORDS * lines;
@@ -111,13 +108,14 @@ fn with_lines(lines: usize, records: &[u64], cache: &[u8])
         if c <= cache.len() {
             let mut slots: [u32; PROCESS_SLOTS] = [0; PROCESS_SLOTS];
             let number = attached(1, lines, &mut slots, &records[0..r], &cache[0..c]);
-            write_count(b"L = ", lines, number);
+            return write_count(rt, "L = ", lines, number);
         }
     }
+    Ok(())
 }
 
 // With one line and this many processes, likewise.
-fn with_processes(processes: usize, slots: &mut [u32])
+fn with_processes(rt: &impl Print, processes: usize, slots: &mut [u32]) -> io::Result<()>
     requires { (1 ≤ processes) × (processes < 2 ^ 32) }
 {
     let n = PROCESS_SLOTS * processes;
@@ -125,38 +123,39 @@ fn with_processes(processes: usize, slots: &mut [u32])
         let records: [u64; RECORD_WORDS] = [0; RECORD_WORDS];
         let cache: [u8; LINE_BYTES] = [0; LINE_BYTES];
         let number = attached(processes, 1, &mut slots[0..n], &records, &cache);
-        write_count(b"P = ", processes, number);
+        return write_count(rt, "P = ", processes, number);
     }
+    Ok(())
 }
 
-fn line_counts(records: &[u64], cache: &[u8]) {
-    with_lines(3, records, cache);
-    with_lines(0, records, cache);
-    with_lines(MOST_LINES, records, cache);
-    with_lines(OVER_LINES, records, cache);
+fn line_counts(rt: &impl Print, records: &[u64], cache: &[u8]) -> io::Result<()> {
+    with_lines(rt, 3, records, cache)?;
+    with_lines(rt, 0, records, cache)?;
+    with_lines(rt, MOST_LINES, records, cache)?;
+    with_lines(rt, OVER_LINES, records, cache)
 }
 
-fn process_counts(slots: &mut [u32]) {
-    with_processes(MOST_PROCESSES, slots);
-    with_processes(OVER_PROCESSES, slots);
+fn process_counts(rt: &impl Print, slots: &mut [u32]) -> io::Result<()> {
+    with_processes(rt, MOST_PROCESSES, slots)?;
+    with_processes(rt, OVER_PROCESSES, slots)
 }
 
 // Buffers for the largest counts of lines.
-fn run_lines() {
+fn run_lines(rt: &impl Print) -> io::Result<()> {
     let records: [u64; RECORD_WORDS * OVER_LINES] = [0; RECORD_WORDS * OVER_LINES];
     let cache: [u8; LINE_BYTES * OVER_LINES] = [0; LINE_BYTES * OVER_LINES];
-    line_counts(&records, &cache);
+    line_counts(rt, &records, &cache)
 }
 
 // And of processes.
-fn run_processes() {
+fn run_processes(rt: &impl Print) -> io::Result<()> {
     let mut slots: [u32; PROCESS_SLOTS * OVER_PROCESSES] = [0; PROCESS_SLOTS * OVER_PROCESSES];
-    process_counts(&mut slots);
+    process_counts(rt, &mut slots)
 }
 
-fn main() {
-    io::write_all(STDOUT_FILENO, b"width 4 at address 2: ");
-    write_end(misaligned());
-    run_lines();
-    run_processes();
+fn main(rt: HostRuntime) -> io::Result<()> {
+    print!(rt; "width 4 at address 2: ")?;
+    write_end(&rt, misaligned())?;
+    run_lines(&rt)?;
+    run_processes(&rt)
 }

@@ -6,9 +6,9 @@
 ghost use Rattle.std.specs.Prelude.{◌≤◌};
 
 use board::{MAX_FRAMES, MAX_LINES, MAX_PROCESSES, PROCESS_SLOTS, Shape};
-use libc::STDOUT_FILENO;
 use lines::Line;
 use record_bridges::TwoLines;
+use std::io;
 
 const PAGE: u64 = 2097152;
 
@@ -212,17 +212,16 @@ fn flush(
     )
 }
 
-fn write_field(x: u64, end: &[u8]) {
-    io::print_decimal(STDOUT_FILENO, x);
-    io::write_all(STDOUT_FILENO, end);
+fn write_field(rt: &impl Print, x: u64, end: &str) -> io::Result<()> {
+    print!(rt; "{x}{end}")
 }
 
-fn write_line(l: Line) {
-    write_field(board::bit_of(l.valid), b" ");
-    write_field(l.name, b" ");
-    write_field(l.physical, b" ");
-    write_field(board::bit_of(l.changed), b" ");
-    write_field(board::bit_of(l.write), b" ");
+fn write_line(rt: &impl Print, l: Line) -> io::Result<()> {
+    write_field(rt, board::bit_of(l.valid), " ")?;
+    write_field(rt, l.name, " ")?;
+    write_field(rt, l.physical, " ")?;
+    write_field(rt, board::bit_of(l.changed), " ")?;
+    write_field(rt, board::bit_of(l.write), " ")
 }
 
 fn wide(x: u8) -> u64 {
@@ -230,27 +229,34 @@ fn wide(x: u8) -> u64 {
 }
 
 // The byte of memory at this place, and the next.
-fn write_bytes(memory: &[u8], at: usize)
+fn write_bytes(rt: &impl Print, memory: &[u8], at: usize) -> io::Result<()>
     requires { at ≤ 4094 }
 {
     if at + 1 < memory.len() {
-        write_field(wide(memory[at]), b" ");
-        write_field(wide(memory[at + 1]), b"\n");
+        write_field(rt, wide(memory[at]), " ")?;
+        write_field(rt, wide(memory[at + 1]), "\n")?;
     }
+    Ok(())
 }
 
 // The answer and the lines.
-fn write_row(row: u64, t: TwoLines) {
-    write_field(row, b" ");
-    write_field(t.answer.number as u64, b" ");
-    write_field(t.answer.value as u64, b" ");
-    write_field(t.answer.mark as u64, b" ");
-    write_line(t.lines[0]);
-    write_line(t.lines[1]);
+fn write_row(rt: &impl Print, row: u64, t: TwoLines) -> io::Result<()> {
+    write_field(rt, row, " ")?;
+    write_field(rt, t.answer.number as u64, " ")?;
+    write_field(rt, t.answer.value as u64, " ")?;
+    write_field(rt, t.answer.mark as u64, " ")?;
+    write_line(rt, t.lines[0])?;
+    write_line(rt, t.lines[1])
 }
 
 // Protect the page, read-only.
-fn protect_row(row: u64, slots: &[u32], cache: &[u8], memory: &[u8]) {
+fn protect_row(
+    rt: &impl Print,
+    row: u64,
+    slots: &[u32],
+    cache: &[u8],
+    memory: &[u8],
+) -> io::Result<()> {
     let mut words: [u64; 1] = [WORD];
     let t = protect(
         given(row),
@@ -261,49 +267,55 @@ fn protect_row(row: u64, slots: &[u32], cache: &[u8], memory: &[u8]) {
         memory,
         page(row),
     );
-    write_row(row, t);
-    write_field(words[0], b"\n");
+    write_row(rt, row, t)?;
+    write_field(rt, words[0], "\n")
 }
 
 // Flush all.
-fn flush_row(row: u64, slots: &[u32], cache: &[u8], memory: &mut [u8]) {
+fn flush_row(
+    rt: &impl Print,
+    row: u64,
+    slots: &[u32],
+    cache: &[u8],
+    memory: &mut [u8],
+) -> io::Result<()> {
     let words: [u64; 1] = [WORD];
     let t = flush(given(row), slots, &words, flush_lines(row), cache, memory);
-    write_row(row, t);
-    write_bytes(memory, shown(row));
+    write_row(rt, row, t)?;
+    write_bytes(rt, memory, shown(row))
 }
 
-fn protects(slots: &[u32], cache: &[u8], memory: &[u8]) {
+fn protects(rt: &impl Print, slots: &[u32], cache: &[u8], memory: &[u8]) -> io::Result<()> {
     for row in 1..=ROWS {
-        protect_row(row, slots, cache, memory);
+        protect_row(rt, row, slots, cache, memory)?;
     }
+    Ok(())
 }
 
-fn flushes(slots: &[u32], cache: &[u8], memory: &mut [u8]) {
+fn flushes(rt: &impl Print, slots: &[u32], cache: &[u8], memory: &mut [u8]) -> io::Result<()> {
     for row in 1..=ROWS {
-        flush_row(row, slots, cache, memory);
+        flush_row(rt, row, slots, cache, memory)?;
     }
+    Ok(())
 }
 
 // The rows of both calls.
-fn rows(slots: &[u32], cache: &[u8], memory: &mut [u8]) {
-    io::write_all(
-        STDOUT_FILENO,
-        b"protect: row number value mark, valid name physical changed write of line 0, of line 1, word\n",
-    );
-    protects(slots, cache, memory);
-    io::write_all(
-        STDOUT_FILENO,
-        b"flush all: row number value mark, valid name physical changed write of line 0, of line 1, two bytes\n",
-    );
-    flushes(slots, cache, memory);
+fn rows(rt: &impl Print, slots: &[u32], cache: &[u8], memory: &mut [u8]) -> io::Result<()> {
+    println!(rt;
+        "protect: row number value mark, valid name physical changed write of line 0, of line 1, word"
+    )?;
+    protects(rt, slots, cache, memory)?;
+    println!(rt;
+        "flush all: row number value mark, valid name physical changed write of line 0, of line 1, two bytes"
+    )?;
+    flushes(rt, slots, cache, memory)
 }
 
 // Cache line 0 is all 5, line 1 begins with 9.
-fn main() {
+fn main(rt: HostRuntime) -> io::Result<()> {
     let slots: [u32; OVER_SLOTS] = [0; OVER_SLOTS];
     let mut cache: [u8; 32] = [5; 32];
     cache[16] = 9;
     let mut memory: [u8; 4096] = [0; 4096];
-    rows(&slots, &cache, &mut memory);
+    rows(&rt, &slots, &cache, &mut memory)
 }

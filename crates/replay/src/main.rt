@@ -2,19 +2,24 @@
 // standard output, and to standard error why a log is refused.
 #![tactic(auto)]
 
-ghost use Rattle.std.specs.Prelude.{◌<◌, length};
+ghost use Rattle.std.specs.Prelude.{◌<◌, ◌≤◌, length};
 ghost use Rattle.log_reader.specs.Readers.{Readable};
 ghost use Rattle.replay.specs.Sizes.{Small, Largest, piece_bytes};
 
 use address::{Effective, Global};
 use board::{Answer, LINE_BYTES, PAGE_BYTES, PROCESS_SLOTS, Pending, RECORD_WORDS, Shape};
-use libc::{STDERR_FILENO, STDIN_FILENO, STDOUT_FILENO};
 use log_entries::{
     ATTACH, DETACH, DROP_TAG, ENTRY_WORDS, Entry, FLUSH_ALL, HEADER, MAP, MOVE, PROTECT,
     SUPERVISOR_ACCESS, TAG, UNMAP, USER_ACCESS, WORD_MOST,
 };
 use log_numbers::{CUT, FIELD, KIND, NONE, PADDED, TENTH};
 use log_reader::Reader;
+use std::env::FillError;
+use std::fmt::InlineText;
+use std::fs::File;
+use std::io;
+use std::io::Read;
+use std::rt::{Env, Files};
 use stores::Access;
 use tag_calls::Tagged;
 
@@ -46,6 +51,17 @@ const WORD_END: u64 = WORD_MOST + 1;
 
 // One more reason for which a log is refused: its board is too large for this program.
 const LARGE: u64 = 7;
+
+// Linux's number for a name that is too long: the log's is at most so many bytes.
+const NAME_TOO_LONG: i32 = 36;
+
+const NAME: usize = 4096;
+
+// And for bytes that are no text: a file is opened by a name in UTF-8.
+const NO_TEXT: i32 = 84;
+
+// Room for an error's text.
+const ERROR_TEXT: usize = 256;
 
 // The log so far: where its reader stands, how many entries the last piece gave, and whether there is more to read.
 #[derive(Clone, Copy)]
@@ -240,17 +256,17 @@ fn call_on_parts(
     )
 }
 
-fn write_field(x: u64, end: &[u8]) {
-    io::print_decimal(STDOUT_FILENO, x);
-    io::write_all(STDOUT_FILENO, end);
+// What can't be written is passed over: the calls go on, and it is still said whether the log is refused.
+fn write_field(rt: &impl Print, x: u64, end: &str) {
+    let _ = print!(rt; "{x}{end}");
 }
 
 // A row of the table.
-fn write_row(call: u64, a: Answer) {
-    write_field(call, b" ");
-    write_field(a.number as u64, b" ");
-    write_field(a.value as u64, b" ");
-    write_field(a.mark as u64, b"\n");
+fn write_row(rt: &impl Print, call: u64, a: Answer) {
+    write_field(rt, call, " ");
+    write_field(rt, a.number as u64, " ");
+    write_field(rt, a.value as u64, " ");
+    write_field(rt, a.mark as u64, "\n");
 }
 
 // A board before any call.
@@ -300,7 +316,7 @@ fn board_of(e: Entry) -> Board
 }
 
 // The board after a call, whose row is written. No log has 2^64 calls.
-fn after_call(b: Board, t: Tagged) -> Board
+fn after_call(rt: &impl Print, b: Board, t: Tagged) -> Board
     requires { Small b.shape }
     ensures { Small result.shape }
 {
@@ -308,7 +324,7 @@ fn after_call(b: Board, t: Tagged) -> Board
     let a = t.answer;
     let tag = t.tag;
     let calls = std::num::wrapping_add_u64(b.calls, 1);
-    write_row(calls, a);
+    write_row(rt, calls, a);
     Board {
         shape: s,
         tag: tag,
@@ -319,6 +335,7 @@ fn after_call(b: Board, t: Tagged) -> Board
 
 // An entry: the header, or a call. On a board that is too large nothing is done.
 fn play_entry(
+    rt: &impl Print,
     b: Board,
     slots: &mut [u32; SLOTS],
     words: &mut [u64; MOST_FRAMES],
@@ -337,7 +354,7 @@ fn play_entry(
         return b;
     }
     let t = call_on_parts(b.shape, slots, words, records, cache, memory, b.tag, e);
-    after_call(b, t)
+    after_call(rt, b, t)
 }
 
 // An entry of a list.
@@ -357,6 +374,7 @@ fn entry_at(entries: &[u64; ENTRIES], i: usize) -> Entry
 
 // The entries of a piece.
 fn play_entries(
+    rt: &impl Print,
     b: Board,
     slots: &mut [u32; SLOTS],
     words: &mut [u64; MOST_FRAMES],
@@ -373,7 +391,7 @@ fn play_entries(
     let mut i: usize = 0;
     while i < given && i < PIECE {
         let e = entry_at(entries, i);
-        after = play_entry(after, slots, words, records, cache, memory, e);
+        after = play_entry(rt, after, slots, words, records, cache, memory, e);
         i += 1;
     }
     after
@@ -400,67 +418,85 @@ fn read_piece(r: Reader, piece: &[u8], entries: &mut [u64; ENTRIES]) -> Input
     }
 }
 
-// Why the input can't be opened or read.
-fn say_failed(name: &[u8]) {
-    io::write_all(STDERR_FILENO, b"replay: ");
-    os::fail(name);
+// An error's text without the system's number for it, which std puts behind.
+fn without_number(text: &str) -> &str {
+    match text.split_once(" (os error ") {
+        Some((words, _)) => words,
+        None => text,
+    }
 }
 
-// Reads on. An input that can't be read has ended.
-fn read_on(fd: i32, name: &[u8], r: Reader, entries: &mut [u64; ENTRIES]) -> Input
+// Why the input can't be opened or read.
+fn say_failed(rt: &impl Eprint, name: &str, error: io::Error) {
+    let text = InlineText::<ERROR_TEXT>::of(error);
+    let words = without_number(text.as_str());
+    let _ = eprintln!(rt; "replay: {name}: {words}");
+}
+
+// Reads a piece, and gives its length. An input that can't be read has ended.
+fn fill<R: Read>(rt: &impl Eprint, input: &mut R, name: &str, piece: &mut [u8; PIECE]) -> usize
+    ensures { result ≤ length piece.new }
+{
+    match input.read(piece) {
+        Ok(n) => n,
+        Err(error) => {
+            say_failed(rt, name, error);
+            0
+        }
+    }
+}
+
+// Reads on.
+fn read_on<R: Read>(
+    rt: &impl Eprint,
+    input: &mut R,
+    name: &str,
+    r: Reader,
+    entries: &mut [u64; ENTRIES],
+) -> Input
     requires { Readable r }
     ensures { Readable result.reader }
 {
-    let mut piece = io::buffer();
-    let got = libc::read(fd, &mut piece);
-    if got < 0 {
-        say_failed(name);
-    }
-    let n = io::count(got, &piece);
+    let mut piece = [0u8; PIECE];
+    let n = fill(rt, input, name, &mut piece);
     read_piece(r, &piece[..n], entries)
 }
 
-fn say_reason(reason: u64) -> bool {
-    match reason {
-        PADDED => io::write_all(STDERR_FILENO, b"a number's last group is 0 after others\n"),
-        TENTH => io::write_all(STDERR_FILENO, b"a number's tenth byte is above 1\n"),
-        CUT => io::write_all(STDERR_FILENO, b"the log is cut\n"),
-        KIND => io::write_all(STDERR_FILENO, b"a kind that is not known\n"),
-        FIELD => io::write_all(STDERR_FILENO, b"a field that is too large\n"),
-        _ => io::write_all(
-            STDERR_FILENO,
-            b"a board of more than 8 frames, 64 lines or 16 processes\n",
-        ),
-    }
+fn say_reason(rt: &impl Eprint, reason: u64) {
+    let words = match reason {
+        PADDED => "a number's last group is 0 after others",
+        TENTH => "a number's tenth byte is above 1",
+        CUT => "the log is cut",
+        KIND => "a kind that is not known",
+        FIELD => "a field that is too large",
+        _ => "a board of more than 8 frames, 64 lines or 16 processes",
+    };
+    let _ = eprintln!(rt; "{words}");
 }
 
 // Where a log is refused, and why.
-fn say_refused(place: u64, calls: u64, reason: u64) {
-    io::write_all(STDERR_FILENO, b"replay: log refused at byte ");
-    io::print_decimal(STDERR_FILENO, place);
-    io::write_all(STDERR_FILENO, b", after ");
-    io::print_decimal(STDERR_FILENO, calls);
-    io::write_all(STDERR_FILENO, b" calls: ");
-    say_reason(reason);
+fn say_refused(rt: &impl Eprint, place: u64, calls: u64, reason: u64) {
+    let _ = eprint!(rt; "replay: log refused at byte {place}, after {calls} calls: ");
+    say_reason(rt, reason);
 }
 
 // Says at the end whether the log is refused.
-fn judge(r: Reader, b: Board)
+fn judge(rt: &impl Eprint, r: Reader, b: Board)
     requires { Readable r }
 {
     if b.large {
-        say_refused(0, 0, LARGE);
+        say_refused(rt, 0, 0, LARGE);
         return;
     }
     let reason = log_reader::reason_of(r, true);
     if reason != NONE {
-        say_refused(log_reader::place_of(r), b.calls, reason);
+        say_refused(rt, log_reader::place_of(r), b.calls, reason);
     }
 }
 
 // Replays a log to its end, on zeros. Nothing says that an input ends, so the loop counts its turns down, from a number that no run
 // uses up.
-fn replay(fd: i32, name: &[u8]) {
+fn replay<R: Read>(rt: &(impl Print + Eprint), input: &mut R, name: &str) {
     let mut slots: [u32; SLOTS] = [0; SLOTS];
     let mut words: [u64; MOST_FRAMES] = [0; MOST_FRAMES];
     let mut records: [u64; RECORDS] = [0; RECORDS];
@@ -474,10 +510,11 @@ fn replay(fd: i32, name: &[u8]) {
         more: true,
     };
     let mut turns = u64::MAX;
-    io::write_all(STDOUT_FILENO, b"call answer value mark\n");
+    let _ = println!(rt; "call answer value mark");
     while turns > 0 && (x.more & !b.large) {
-        x = read_on(fd, name, x.reader, &mut entries);
+        x = read_on(rt, input, name, x.reader, &mut entries);
         b = play_entries(
+            rt,
             b,
             &mut slots,
             &mut words,
@@ -489,35 +526,46 @@ fn replay(fd: i32, name: &[u8]) {
         );
         turns -= 1;
     }
-    judge(x.reader, b);
+    judge(rt, x.reader, b);
 }
 
 // Replays a file.
-fn replay_file(name: &[u8]) {
-    let fd = os::open_read(name);
-    if fd < 0 {
-        say_failed(name);
-        return;
+fn replay_file(rt: &(impl Files + Print + Eprint), name: &str) {
+    match File::open(rt, name) {
+        Ok(mut file) => replay(rt, &mut file, name),
+        Err(error) => say_failed(rt, name, error),
     }
-    replay(fd, name);
-    libc::close(fd);
 }
 
-fn main() {
-    let count = os::arg_count();
-    if count < 2 {
-        replay(STDIN_FILENO, b"standard input");
+// Replays the file that has this name.
+fn replay_named(rt: &(impl Files + Print + Eprint), name: &[u8]) {
+    match std::str::from_utf8(name) {
+        Ok(text) => replay_file(rt, text),
+        Err(_) => say_failed(rt, "the log's name", io::Error::from_raw_os_error(NO_TEXT)),
+    }
+}
+
+fn has_argument(rt: &impl Env, i: usize) -> bool {
+    let mut start = [0u8; 1];
+    !matches!(rt.arg(i, &mut start), Err(FillError::NotPresent))
+}
+
+fn main(rt: HostRuntime) {
+    if !has_argument(&rt, 1) {
+        replay(&rt, &mut rt.stdin(), "standard input");
         return;
     }
-    if count > 2 {
-        io::write_all(STDERR_FILENO, b"replay: more than one log\n");
+    if has_argument(&rt, 2) {
+        let _ = eprintln!(rt; "replay: more than one log");
         return;
     }
-    let mut name = io::buffer();
-    let length = os::arg(1, &mut name);
-    if os::errno() != 0 {
-        say_failed(b"the log's name");
-        return;
+    let mut name = [0u8; NAME];
+    match rt.arg(1, &mut name) {
+        Ok(length) => replay_named(&rt, &name[..length]),
+        Err(_) => say_failed(
+            &rt,
+            "the log's name",
+            io::Error::from_raw_os_error(NAME_TOO_LONG),
+        ),
     }
-    replay_file(&name[..length]);
 }

@@ -3,7 +3,7 @@
 
 use address::Effective;
 use board::{Answer, Pending, Shape};
-use libc::STDOUT_FILENO;
+use std::io;
 use stores::Access;
 
 const PAGE: u64 = 2097152;
@@ -133,27 +133,26 @@ fn answer(
     }
 }
 
-fn write_field(x: u64, end: &[u8]) {
-    io::print_decimal(STDOUT_FILENO, x);
-    io::write_all(STDOUT_FILENO, end);
+fn write_field(rt: &impl Print, x: u64, end: &str) -> io::Result<()> {
+    print!(rt; "{x}{end}")
 }
 
 // A row of the table.
-fn write_row(call: u64, a: Answer) {
-    write_field(call, b" ");
-    write_field(a.number as u64, b" ");
-    write_field(a.value as u64, b" ");
-    write_field(a.mark as u64, b"\n");
+fn write_row(rt: &impl Print, call: u64, a: Answer) -> io::Result<()> {
+    write_field(rt, call, " ")?;
+    write_field(rt, a.number as u64, " ")?;
+    write_field(rt, a.value as u64, " ")?;
+    write_field(rt, a.mark as u64, "\n")
 }
 
 // A fresh board, with memory that is not zero, and the calls on it.
-fn main() {
+fn main(rt: HostRuntime) -> io::Result<()> {
     let mut slots: [u32; 1024] = [0; 1024];
     let mut words: [u64; 4] = [0; 4];
     let mut records: [u64; 4] = [0; 4];
     let mut cache: [u8; 32] = [7; 32];
     let mut memory: [u8; 16384] = [7; 16384];
-    io::write_all(STDOUT_FILENO, b"call answer value hit\n");
+    println!(rt; "call answer value hit")?;
     for number in 1..=CALLS {
         let a = answer(
             &mut slots,
@@ -163,6 +162,7 @@ fn main() {
             &mut memory,
             call(number),
         );
-        write_row(number, a);
+        write_row(&rt, number, a)?;
     }
+    Ok(())
 }

@@ -2,7 +2,7 @@
 #![tactic(auto)]
 
 use board::{Pending, Shape};
-use libc::STDOUT_FILENO;
+use std::io;
 use tag_calls::Tagged;
 
 const PAGE: u64 = 2097152;
@@ -126,23 +126,22 @@ fn bit(b: bool) -> u64 {
     if b { 1 } else { 0 }
 }
 
-fn write_field(x: u64, end: &[u8]) {
-    io::print_decimal(STDOUT_FILENO, x);
-    io::write_all(STDOUT_FILENO, end);
+fn write_field(rt: &impl Print, x: u64, end: &str) -> io::Result<()> {
+    print!(rt; "{x}{end}")
 }
 
 // A row of the table.
-fn write_row(call: u64, t: Tagged) {
-    write_field(call, b" ");
-    write_field(t.answer.number as u64, b" ");
-    write_field(bit(t.tag.set), b" ");
-    write_field(t.tag.name, b"\n");
+fn write_row(rt: &impl Print, call: u64, t: Tagged) -> io::Result<()> {
+    write_field(rt, call, " ")?;
+    write_field(rt, t.answer.number as u64, " ")?;
+    write_field(rt, bit(t.tag.set), " ")?;
+    write_field(rt, t.tag.name, "\n")
 }
 
 // A name and a number, as a line.
-fn write_line(name: &[u8], number: u64) {
-    io::write_all(STDOUT_FILENO, name);
-    write_field(number, b"\n");
+fn write_line(rt: &impl Print, name: &str, number: u64) -> io::Result<()> {
+    print!(rt; "{name}")?;
+    write_field(rt, number, "\n")
 }
 
 fn wide(x: u8) -> u64 {
@@ -150,15 +149,15 @@ fn wide(x: u8) -> u64 {
 }
 
 // The record and a cached byte of the line that was loaded, and a byte of the place beside it.
-fn write_end(records: &[u64; 4], cache: &[u8; 32]) {
-    write_line(b"name ", records[0]);
-    write_line(b"word ", records[1]);
-    write_line(b"loaded ", wide(cache[0]));
-    write_line(b"beside ", wide(cache[16]));
+fn write_end(rt: &impl Print, records: &[u64; 4], cache: &[u8; 32]) -> io::Result<()> {
+    write_line(rt, "name ", records[0])?;
+    write_line(rt, "word ", records[1])?;
+    write_line(rt, "loaded ", wide(cache[0]))?;
+    write_line(rt, "beside ", wide(cache[16]))
 }
 
 // A fresh board, with cache bytes and memory that are not zero, the calls on it, and what stands there at the end.
-fn main() {
+fn main(rt: HostRuntime) -> io::Result<()> {
     let slots: [u32; 1024] = [0; 1024];
     let mut words: [u64; 4] = [0; 4];
     let mut records: [u64; 4] = [0; 4];
@@ -168,7 +167,7 @@ fn main() {
         set: false,
         name: 0,
     };
-    io::write_all(STDOUT_FILENO, b"call answer set name\n");
+    println!(rt; "call answer set name")?;
     for number in 1..=CALLS {
         let t = answer(
             &slots,
@@ -179,8 +178,8 @@ fn main() {
             pending,
             call(number),
         );
-        write_row(number, t);
+        write_row(&rt, number, t)?;
         pending = t.tag;
     }
-    write_end(&records, &cache);
+    write_end(&rt, &records, &cache)
 }
