@@ -3,7 +3,6 @@
 use Rattle.std.specs.Prelude.{ℕ, ◌≡◌, List, []}
 use Rattle.board.specs.Lists.{is_yes}
 use Rattle.board.specs.declared.Answer.{Answer}
-use Rattle.board.specs.declared.Pending.{Pending}
 use Rattle.lines.specs.Victims.{Uses}
 use Rattle.machine.specs.Boards.{Board, sets_board}
 use Rattle.machine.specs.Lists.{Answered, answered}

@@ -2,8 +2,8 @@
 use Prim.Native.Nat.{ℕ, zero, suc, ◌+◌, ◌≤◌, ◌<◌}
 use mathlib.Core.Path.{◌≡◌, ◌∙◌, sym, refl, ap}
 use mathlib.Core.Logic.{⊎_elim, ◌≢◌}
-use mathlib.Core.Bool.{Bool, true, false}
-use mathlib.Core.List.{List, [], ◌∷◌}
+use mathlib.Core.Bool.{true}
+use mathlib.Core.List.{List}
 use native.Mathlib.Omega.{arith}
 use borrow.Author.Count.{below_more}
 use lib.ListN.{length, get_or, set, get_or-eq_default}
@@ -12,7 +12,7 @@ use Rattle.board.specs.Searches.{first}
 use Rattle.board.specs.declared.Found.{Found}
 use Rattle.board.specs.declared.Found.TheVariants.{At, Nothing}
 use Rattle.board.proofs.Bools.{clash}
-use Rattle.board.proofs.Searches.{First, first-at, first-nothing, first-none}
+use Rattle.board.proofs.Searches.{first-at, first-nothing, first-none}
 use Rattle.doubles.specs.Doubles.{repeats, keys_from, keys_of, first_double}
 use Rattle.doubles.proofs.Lists.{lt-or-le, eq-or-not}
 use Rattle.doubles.proofs.Doubles.{repeats-true, repeats-false, repeats-is}

@@ -1,14 +1,14 @@
 -- How often a search turns: after so many turns it stands at a place of that depth, whose key has as many low bits like the key's own; and keys with
 -- the same bits are one.
-use Prim.Native.Nat.{ℕ, zero, suc, ◌+◌, ◌*◌, ◌/◌, ◌%◌, ◌^◌, ◌≤◌, ◌<◌}
-use mathlib.Core.Path.{◌≡◌, ◌∙◌, sym, refl, ap}
-use mathlib.Core.Logic.{⊎_elim, ◌≢◌}
+use Prim.Native.Nat.{ℕ, zero, suc, ◌/◌, ◌%◌, ◌^◌, ◌<◌}
+use mathlib.Core.Path.{◌≡◌, ◌∙◌, refl, ap}
+use mathlib.Core.Logic.{⊎_elim}
 use mathlib.Core.List.{List}
 use native.Mathlib.Omega.{arith}
 use native.Mathlib.Nat.{pow-suc}
 use lib.ListN.{get_or}
 use Rattle.doubles.proofs.Lists.{lt-or-le, eq-or-not}
-use Rattle.doubles.specs.Trees.{slot_of, rest_after, Turned, start, turn, SameBits, Hangs, Tree}
+use Rattle.doubles.specs.Trees.{slot_of, rest_after, Turned, start, turn, SameBits, Tree}
 use Rattle.doubles.specs.Turns.{FewTurns}
 
 module _ {keys links : List ℕ} {n : ℕ} (tree : Tree keys links n) where

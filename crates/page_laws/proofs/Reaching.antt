@@ -14,7 +14,7 @@ use Rattle.board.specs.declared.Home.{Home}
 use Rattle.board.specs.declared.Home.TheVariants.{Line as HomeLine, Nowhere}
 use Rattle.line_bytes.specs.Bytes.{number as number_in, digits, stored, line_of}
 use Rattle.lines.specs.Records.{line_at}
-use Rattle.stores.specs.Stores.{Store, store, performed_at, current_by, current}
+use Rattle.stores.specs.Stores.{Store, performed_at, current_by, current}
 use Rattle.lines.specs.Holds.{place_of, set_at, holds_at, holder_of, keeper_of}
 use Rattle.reach.specs.Reach.{way_by_home, way_by, unreached, may_write}
 use Rattle.stores.specs.declared.Access.{Access}

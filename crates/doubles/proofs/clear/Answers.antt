@@ -1,5 +1,4 @@
 -- `clear` opens every link: those below `i` are open.
-use Prim.Native.Nat.{◌-◌}
 use Rattle.doubles.proofs.Lists.{cleared_more, cleared-all}
 use borrow.Author.Rules.{rules}
 use Rattle.doubles.proofs.clear.Goals as goal

@@ -1,5 +1,4 @@
 -- `double_in` walks the places: no place below `best` stands again among those passed.
-use Prim.Native.Nat.{◌-◌}
 use borrow.Author.Rules.{rules}
 use Rattle.doubles.proofs.Doubles.{best-start, best-more, best-at, best_none}
 use Rattle.doubles.proofs.double_in.Goals as goal

@@ -1,5 +1,4 @@
 -- `seek` goes down the tree: what the search finds from here, it finds from the start.
-use Prim.Native.Nat.{◌-◌}
 use native.Mathlib.Omega.{arith}
 use Rattle.doubles.proofs.Trees.{at-start, at_on, at_less, sought-taken, sought-open}
 use borrow.Author.Rules.{rules}

@@ -1,5 +1,4 @@
 -- `empty_in` looks from record to record of a set: the search from `i` on is the whole.
-use Prim.Native.Nat.{◌-◌}
 use mathlib.Core.Path.{◌∙◌, refl, sym}
 use Rattle.board.proofs.Searches.{first-start, first-end}
 use Rattle.lines.proofs.Holders.{empty-here, empty-more}

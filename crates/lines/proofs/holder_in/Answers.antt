@@ -1,5 +1,4 @@
 -- `holder_in` looks from record to record of a set, from the first that has the name: the search from `i` on is the whole.
-use Prim.Native.Nat.{◌-◌}
 use mathlib.Core.Path.{◌∙◌, sym}
 use Rattle.board.proofs.Searches.{first-here, first_more, first-end}
 use Rattle.lines.proofs.Holders.{named_start}

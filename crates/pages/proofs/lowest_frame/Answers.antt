@@ -1,5 +1,4 @@
 -- `lowest_frame` finds the lowest frame: what the search from `u` finds, the search from `f` finds.
-use Prim.Native.Nat.{◌-◌}
 use mathlib.Core.Path.{◌∙◌, refl, sym}
 use native.Mathlib.Omega.{arith}
 use Rattle.pages.specs.Pages.{lowest_frame}

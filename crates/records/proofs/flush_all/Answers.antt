@@ -21,10 +21,10 @@ flush_line-l-requires c =
     let small : c.loop-i.i < turns_when (eqb c.flush_number-a.result.number 0) n = omega arith in
     let inside : c.loop-i.i < n = omega (arith, c.loop-i.invariant.turns) in
     let long : length c.loop-i.memory ≡ length a.memory.now =
-        ap length c.loop-i.invariant.flushed ∙ memory_length a.s a.cache.now 0 c.loop-i.i a.lines.now a.memory.now in
+    ap length c.loop-i.invariant.flushed ∙ memory_length a.s a.cache.now 0 c.loop-i.i a.lines.now a.memory.now in
     rw long (fit-placed a.s (length a.slots.now) (length a.words.now) n (length a.cache.now) (length a.memory.now) c.loop-i.i
-      (number_fits a.s (length a.slots.now) (length a.words.now) n (length a.cache.now) (length a.memory.now)
-      c.flush_number-a.result c.flush_number-a.ensures (turn-done _ _ _ small)) inside)
+    (number_fits a.s (length a.slots.now) (length a.words.now) n (length a.cache.now) (length a.memory.now)
+    c.flush_number-a.result c.flush_number-a.ensures (turn-done _ _ _ small)) inside)
 
 pub loop-i-preserved : goal.loop-i-preserved
 loop-i-preserved c =

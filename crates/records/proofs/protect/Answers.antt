@@ -20,8 +20,8 @@ protect_line-requires c =
     let small : c.loop-i.i < turns_when (eqb c.protect_word-a.result.number 0) n = omega arith in
     let inside : c.loop-i.i < n = omega (arith, c.loop-i.invariant.turns) in
     (fit-placed a.s (length a.slots.now) (length a.words.now) n (length a.cache.now) (length a.memory.now) c.loop-i.i
-      (word_fits a.s (length a.slots.now) a.words.now n (length a.cache.now) (length a.memory.now) a.page a.write
-      c.protect_word-a.result c.protect_word-a.new.words c.protect_word-a.ensures (turn-done _ _ _ small)) inside).lined
+    (word_fits a.s (length a.slots.now) a.words.now n (length a.cache.now) (length a.memory.now) a.page a.write
+    c.protect_word-a.result c.protect_word-a.new.words c.protect_word-a.ensures (turn-done _ _ _ small)) inside).lined
 
 pub loop-i-preserved : goal.loop-i-preserved
 loop-i-preserved c =
@@ -36,5 +36,5 @@ pub returns : goal.returns
 returns c =
     let a = c.args in
     let w = walked-all a.s (protect_visit a.page a.write) (eqb c.protect_word-a.result.number 0) _ _ _ _ c.loop-i.invariant.walked c.turns-n.ensures
-        c.loop-i.invariant.within (omega arith) in
+    c.loop-i.invariant.within (omega arith) in
     rw w (protect-met a.s a.slots.now a.words.now a.lines.now a.cache.now a.memory.now a.page a.write c.protect_word-a.result c.protect_word-a.new.words c.protect_word-a.ensures)

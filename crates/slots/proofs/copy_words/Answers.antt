@@ -1,5 +1,4 @@
 -- `copy_words` leaves the source: the elements below `i` are copied.
-use Prim.Native.Nat.{◌-◌}
 use native.Mathlib.Omega.{arith}
 use lib.ListN.{length-set}
 use lib.Seq.{ext_get_or}

@@ -13,14 +13,14 @@ one_access-x-requires c = (search (rules, kept-fit), search rules)
 
 pub loop-i-preserved : goal.loop-i-preserved
 loop-i-preserved c = let l = c.loop-i.invariant in (
-      search rules,
-      search rules,
-      search rules,
-      search rules,
-      search rules,
-      search rules,
-      list-more _ _ _ _ _ _ _ _ _ _ _ _ _ _ _ _ _ _ l.6 (search rules) l.4 c.one_access-x.ensures,
-    )
+  search rules,
+  search rules,
+  search rules,
+  search rules,
+  search rules,
+  search rules,
+  list-more _ _ _ _ _ _ _ _ _ _ _ _ _ _ _ _ _ _ l.6 (search rules) l.4 c.one_access-x.ensures,
+)
 
 pub returns : goal.returns
 returns c = let l = c.loop-i.invariant in list-end _ _ _ _ _ _ _ _ _ _ _ _ _ l.6 (search rules) l.4

@@ -1,5 +1,4 @@
 -- `visit_names` goes run by run: what is passed over is left as it is.
-use Prim.Native.Nat.{◌-◌}
 use mathlib.Core.Path.{◌∙◌, sym, refl}
 use native.Mathlib.Nat.{sub-zero, zero-mul}
 use native.Mathlib.Omega.{arith}
@@ -30,12 +29,12 @@ visit_run-requires c = let w = run-within _ c.requires.lined c.args.v _ c.sets_o
 pub loop-place-preserved : goal.loop-place-preserved
 unfolding visited_all
 loop-place-preserved c = (
-      search (rules, sized-kept),
-      search rules,
-      search rules,
-      c.loop-place.invariant.3
-          ∙ run-done _ c.requires.lined c.args.v _ c.sets_of-sets.ensures.0 _ _ _ _ c.next_run-run.ensures c.visit_run.ensures,
-    )
+  search (rules, sized-kept),
+  search rules,
+  search rules,
+  c.loop-place.invariant.3
+      ∙ run-done _ c.requires.lined c.args.v _ c.sets_of-sets.ensures.0 _ _ _ _ c.next_run-run.ensures c.visit_run.ensures,
+)
 
 pub returns : goal.returns
 unfolding visited_all

@@ -1,5 +1,4 @@
 -- `visit_run` visits record by record: the sweep from `i` on is the whole.
-use Prim.Native.Nat.{◌-◌}
 use mathlib.Core.Path.{◌∙◌, sym, refl}
 use native.Mathlib.Omega.{arith}
 use Rattle.visits.proofs.Visits.{sweep-more, sweep-end}
