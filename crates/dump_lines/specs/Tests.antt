@@ -1,5 +1,5 @@
 -- How the code inside tests lines. No call's definition needs this.
-use Rattle.std.specs.Prelude.{ℕ, ◌+◌, ◌/◌, ◌%◌, Bool, false, not, ◌&&◌, cond, List, eqb, leb, get_or}
+use Rattle.std.specs.Prelude.{ℕ, ◌+◌, ◌/◌, ◌%◌, Bool, ◌&&◌, cond, List, eqb, leb, get_or}
 use Rattle.address.specs.Layout.{page_lines, prefix_lines}
 use Rattle.address.specs.Addresses.{ordinary_page}
 use Rattle.board.specs.declared.Shape.{Shape}

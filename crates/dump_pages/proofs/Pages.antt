@@ -1,5 +1,5 @@
 -- The page of a frame, read off its word; and what the search for a doubled page tells.
-use Prim.Native.Nat.{ℕ, ◌/◌, ◌%◌, ◌^◌, ◌≤◌, ◌<◌}
+use Prim.Native.Nat.{ℕ, ◌/◌, ◌%◌, ◌≤◌, ◌<◌}
 use mathlib.Core.Path.{◌≡◌, ◌∙◌, sym, refl}
 use mathlib.Core.Logic.{◌≢◌}
 use mathlib.Core.Bool.{Bool, true, false, ◌&&◌, cond}
@@ -13,7 +13,7 @@ use Rattle.pages.specs.Pages.{names_page}
 use Rattle.board.specs.Searches.{first}
 use Rattle.board.specs.declared.Shape.{Shape}
 use Rattle.board.specs.declared.Found.{Found}
-use Rattle.board.specs.declared.Found.TheVariants.{At, Nothing}
+use Rattle.board.specs.declared.Found.TheVariants.{Nothing}
 use Rattle.board.proofs.Bools.{and_left, and_right}
 use Rattle.page_laws.proofs.Maps.{names-word, word-names, ordinary-low}
 use Rattle.doubles.specs.Doubles.{repeats, keys_of}

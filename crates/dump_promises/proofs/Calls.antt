@@ -1,21 +1,19 @@
 -- The two calls, by their contracts; and how often a search turns.
-use Prim.Native.Nat.{ℕ, ◌+◌, ◌*◌, ◌/◌, ◌%◌, ◌^◌, ◌≤◌, ◌<◌}
+use Prim.Native.Nat.{ℕ, ◌+◌, ◌/◌, ◌%◌, ◌^◌, ◌≤◌, ◌<◌}
 use mathlib.Core.Path.{◌≡◌, ◌∙◌, sym, refl, ap}
 use mathlib.Core.Logic.{◌⊎◌, ⊎_elim}
 use mathlib.Core.Bool.{Bool, true, false, not, ◌&&◌, cond}
 use mathlib.Core.List.{List}
 use native.Mathlib.Omega.{arith}
-use borrow.Author.Tests.{leb-true, eqb-true}
+use borrow.Author.Tests.{leb-true}
 use lib.Dec.{eqb, leb}
-use lib.ListN.{length, get_or}
+use lib.ListN.{get_or}
 use Rattle.address.specs.Layout.{first_page, last_page}
 use Rattle.address.specs.Addresses.{ordinary_page}
 use Rattle.board.specs.Shapes.{max_frames}
 use Rattle.board.specs.declared.Shape.{Shape}
 use Rattle.board.specs.declared.Home.{Home}
-use Rattle.board.specs.declared.Found.{Found}
-use Rattle.board.specs.declared.Found.TheVariants.{At, Nothing}
-use Rattle.board.proofs.Bools.{clash, and_left, and_right, and-false}
+use Rattle.board.proofs.Bools.{clash, and_right}
 use Rattle.lines.specs.Records.{line_at}
 use Rattle.lines.specs.Holds.{holds_at}
 use Rattle.stores.specs.Stores.{Store}
@@ -25,11 +23,11 @@ use Rattle.store_laws.proofs.Held.{held_in}
 use Rattle.doubles.specs.Doubles.{keys_of}
 use Rattle.doubles.proofs.Keys.{keys_below}
 use Rattle.doubles.proofs.Turns.{few-turns}
-use Rattle.dump_pages.specs.Pages.{page_in, page_at, doubled_page}
+use Rattle.dump_pages.specs.Pages.{page_in, page_at}
 use Rattle.dump_lines.specs.Lines.{held_line, breaks_alone}
 use Rattle.dump_lines.specs.Tests.{place_key}
 use Rattle.dumps.specs.declared.Report.{Report}
-use Rattle.dumps.specs.Checks.{report, too_short, room_for, checked, check_call}
+use Rattle.dumps.specs.Checks.{report, too_short, checked, check_call}
 use Rattle.dumps.specs.Clauses.{Kept, Check}
 use Rattle.repairs.specs.Repairs.{Repaired, repair_outcome, repair_board, repair_call}
 use Rattle.repairs.specs.Clauses.{Repair}

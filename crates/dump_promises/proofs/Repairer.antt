@@ -2,7 +2,7 @@
 use Prim.Native.Nat.{ℕ, zero, suc, ◌+◌, ◌*◌, ◌/◌, ◌≤◌, ◌<◌}
 use mathlib.Core.Path.{◌≡◌, ◌∙◌, sym, refl, ap}
 use mathlib.Core.Logic.{◌⊎◌, inl, inr, ⊎_elim, ◌≢◌}
-use mathlib.Core.Bool.{Bool, true, false, not, ◌&&◌, ◌||◌, cond}
+use mathlib.Core.Bool.{Bool, true, false, not, ◌&&◌, ◌||◌}
 use mathlib.Core.List.{List}
 use native.Mathlib.Omega.{arith}
 use lib.ListN.{length, get_or}
@@ -32,10 +32,10 @@ use Rattle.dump_pages.specs.Pages.{doubled_page}
 use Rattle.dump_pages.proofs.Pages.{pages_once, once-pages}
 use Rattle.dump_lines.specs.Lines.{doubled_line, astray, stale, breaks_alone}
 use Rattle.dumps.specs.declared.Report.{Report}
-use Rattle.dumps.specs.Checks.{report, yes, or_else, from_rule3, from_rule4, from_rule5, checked}
-use Rattle.repairs.specs.Repairs.{Repaired, held_below, mended, repaired, dropped_at, how_many, dropped_flags, dropped_count, with_dropped, repair_outcome, mended_lines, mended_pages, repair_board}
+use Rattle.dumps.specs.Checks.{report, yes, or_else, from_rule3, checked}
+use Rattle.repairs.specs.Repairs.{Repaired, held_below, mended, repaired, dropped_at, how_many, repair_outcome, mended_lines, mended_pages, repair_board}
 use Rattle.repairs.proofs.Repairs.{below_true, below_false}
-use Rattle.dump_promises.specs.Checker.{Astray, Stale}
+use Rattle.dump_promises.specs.Checker.{Astray}
 use Rattle.dump_promises.specs.Repairer.{Alone, HeldLower, LeftAt, nothing_held, kept, dropped, repaired_board, Repairs, RepairIsRight, NeverGuesses}
 use Rattle.dump_promises.proofs.Rules.{astray-is, is-astray, stale-is, is-stale, home-of, equal_of}
 use Rattle.dump_promises.proofs.Checker.{checker-is-right}

@@ -1,20 +1,19 @@
 -- The rules as the checker tests them and as they are stated: what a search finds breaks its rule, nothing lower does, and where it finds nothing the
 -- rule holds.
-use Prim.Native.Nat.{ℕ, ◌+◌, ◌*◌, ◌≤◌, ◌<◌}
+use Prim.Native.Nat.{ℕ, ◌+◌, ◌*◌, ◌<◌}
 use mathlib.Core.Path.{◌≡◌, ◌∙◌, sym, refl, ap}
 use mathlib.Core.Logic.{◌≢◌}
 use mathlib.Core.Bool.{Bool, true, false, not, ◌&&◌}
 use mathlib.Core.List.{List}
 use native.Mathlib.Omega.{arith}
 use borrow.Author.Tests.{not-true, not-false}
-use lib.ListN.{length, get_or}
+use lib.ListN.{length}
 use Rattle.board.specs.Searches.{first}
 use Rattle.board.specs.declared.Shape.{Shape}
 use Rattle.board.specs.declared.Found.TheVariants.{At, Nothing}
-use Rattle.board.specs.declared.Home.{Home}
 use Rattle.board.specs.declared.Home.TheVariants.{Line}
 use Rattle.board.proofs.Bools.{clash, and_left, and_right}
-use Rattle.board.proofs.Searches.{first-at, first-nothing, first-none}
+use Rattle.board.proofs.Searches.{first-nothing}
 use Rattle.pages.specs.Pages.{home_of}
 use Rattle.line_bytes.specs.Bytes.{line_of}
 use Rattle.lines.specs.Records.{line_at}
@@ -23,10 +22,10 @@ use Rattle.stores.specs.Stores.{Store}
 use Rattle.store_laws.proofs.Held.{held-listed}
 use Rattle.page_laws.proofs.Maps.{ordinary-low}
 use Rattle.promises.specs.Sound.{LinesOnce, LinesMapped, CleanLinesEqual}
-use Rattle.doubles.proofs.Keys.{none-twice, twice-none, double-at}
+use Rattle.doubles.proofs.Keys.{none-twice, double-at}
 use Rattle.dump_pages.specs.Pages.{page_at, doubled_page}
 use Rattle.dump_pages.proofs.Pages.{if-key, page-names, names-page}
-use Rattle.dump_lines.specs.Lines.{same_list, held_line, doubled_line, home_is, at_home, astray, stale, breaks_alone}
+use Rattle.dump_lines.specs.Lines.{same_list, held_line, doubled_line, home_is, at_home, astray, stale}
 use Rattle.dump_lines.proofs.Homes.{home-is, is_home}
 use Rattle.dump_lines.proofs.Lines.{same_list_lem, list_same}
 use Rattle.dump_promises.specs.Checker.{Names, PageTwice, LineTwice, Astray, Stale}

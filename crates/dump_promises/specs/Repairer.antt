@@ -4,7 +4,6 @@ use Rattle.board.specs.Lists.{bit}
 use Rattle.board.specs.declared.Shape.{Shape}
 use Rattle.lines.specs.Records.{line_at, no_line}
 use Rattle.lines.specs.Holds.{holds_at}
-use Rattle.stores.specs.Stores.{Store}
 use Rattle.machine.specs.Boards.{Board, with_store}
 use Rattle.promises.specs.Sound.{ShapeHolds, Sound}
 use Rattle.dumps.specs.Checks.{yes, checked}

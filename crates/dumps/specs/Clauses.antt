@@ -1,6 +1,6 @@
 -- The contract of `check`: the report, by the lengths of the scratch alone, whatever stands in it; and where nothing is to be checked the scratch stays as
 -- it was.
-use Rattle.std.specs.Prelude.{ℕ, ◌≡◌, false, ◌&&◌, length}
+use Rattle.std.specs.Prelude.{◌≡◌, false, ◌&&◌, length}
 use Rattle.board.specs.declared.Shape.{Shape}
 use Rattle.stores.specs.Lent.{Buffer}
 use Rattle.machine.specs.Boards.{Board, fits_board}

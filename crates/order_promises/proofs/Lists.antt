@@ -1,6 +1,6 @@
 -- Runs in which lists of accesses come are the runs of the calls that they stand for, so the order of those calls may change likewise.
 -- Stands on Slots, and on Lists of `promises`.
-use Prim.Native.Nat.{ℕ, suc, ◌+◌, ◌<◌}
+use Prim.Native.Nat.{ℕ, suc, ◌<◌}
 use mathlib.Core.Path.{◌≡◌, refl, sym, ap, ap₂, ◌∙◌}
 use mathlib.Core.Bool.{Bool, true, false, not, cond}
 use mathlib.Core.List.{List, [], ◌∷◌, ◌++◌, append_assoc}

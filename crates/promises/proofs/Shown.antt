@@ -1,8 +1,8 @@
 -- Every board that fits shows a memory: the bytes that look shows, line after line. Stands on Held and on the shape laws.
 use Prim.Native.Nat.{ℕ, zero, suc, ◌+◌, ◌*◌, ◌≤◌, ◌<◌}
-use mathlib.Core.Path.{◌≡◌, refl, sym, ap, ◌∙◌}
+use mathlib.Core.Path.{◌≡◌, refl, sym, ◌∙◌}
 use mathlib.Core.Bool.{Bool, true, false}
-use mathlib.Core.List.{List, [], ◌∷◌, ◌++◌}
+use mathlib.Core.List.{List, ◌++◌}
 use native.Mathlib.Omega.{arith}
 use lib.Dec.{eqb}
 use lib.ListN.{length, drop, length-append, length-drop}
@@ -16,7 +16,7 @@ use Rattle.board.specs.declared.Found.TheVariants.{At, Nothing}
 use Rattle.line_bytes.specs.Bytes.{line_of}
 use Rattle.board.proofs.Lists.{length_part}
 use Rattle.lines.specs.Holds.{keeper_of}
-use Rattle.stores.specs.Stores.{Store, current_by, current}
+use Rattle.stores.specs.Stores.{current_by, current}
 use Rattle.store_laws.proofs.Held.{held-listed, keeper-some}
 use Rattle.machine.specs.Boards.{Board, fits_board}
 use Rattle.promises.specs.Sound.{shown_lines, ShowsSome}

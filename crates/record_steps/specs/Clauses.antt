@@ -1,11 +1,10 @@
 -- What the contracts of protect and flush all over lines say, as machine's `Clauses` says it of the board's own calls: the code's `ensures` cites
 -- these definitions, and no second outcome meets them.
-use Rattle.std.specs.Prelude.{ℕ, ◌≡◌, Bool, List}
+use Rattle.std.specs.Prelude.{ℕ, ◌≡◌, Bool}
 use Rattle.board.specs.declared.Answer.{Answer}
 use Rattle.board.specs.declared.Shape.{Shape}
-use Rattle.lines.specs.declared.Line.{Line}
 use Rattle.machine.specs.Clauses.{Determines}
-use Rattle.record_steps.specs.Lent.{LentBoard, lent_board, lent_outcome, protect_lent, flush_lent}
+use Rattle.record_steps.specs.Lent.{LentBoard, lent_outcome, protect_lent, flush_lent}
 
 abbrev pub ProtectLent : Shape → LentBoard → ℕ → Bool → Answer → LentBoard → Type 0
 ProtectLent s b page write r c = lent_outcome r c ≡ protect_lent s b page write

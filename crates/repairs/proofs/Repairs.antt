@@ -1,5 +1,5 @@
 -- The repair, record by record: what it keeps and what it drops, flags and counts.
-use Prim.Native.Nat.{ℕ, zero, suc, ◌+◌, ◌*◌, ◌-◌, ◌≤◌, ◌<◌}
+use Prim.Native.Nat.{ℕ, zero, suc, ◌+◌, ◌*◌, ◌≤◌, ◌<◌}
 use mathlib.Core.Path.{◌≡◌, ◌∙◌, sym, refl, ap}
 use mathlib.Core.Logic.{⊎_elim}
 use mathlib.Core.Bool.{Bool, true, false, not, ◌&&◌, ◌||◌, cond}
@@ -18,7 +18,7 @@ use Rattle.lines.specs.Records.{line_at, put_line, no_line}
 use Rattle.lines.specs.Holds.{holds_line, holds_at, keeps_line}
 use Rattle.lines.specs.declared.Line.{Line}
 use Rattle.lines.proofs.Records.{length-put, line-put-other}
-use Rattle.stores.specs.Stores.{Store, store, dropped, noted}
+use Rattle.stores.specs.Stores.{store, dropped, noted}
 use Rattle.store_laws.proofs.Held.{holds-none, held_same, held-put-same, held-put-other}
 use Rattle.doubles.specs.Trees.{Placed}
 use Rattle.doubles.specs.Doubles.{keys_of}
@@ -26,7 +26,7 @@ use Rattle.doubles.proofs.Lists.{eq-or-not}
 use Rattle.doubles.proofs.Keys.{keys-at}
 use Rattle.dump_lines.specs.Lines.{held_line, astray, stale, breaks_alone}
 use Rattle.dump_lines.specs.Tests.{place_key}
-use Rattle.repairs.specs.Repairs.{held_below, mended, dropped_at, how_many, dropped_flags, dropped_count}
+use Rattle.repairs.specs.Repairs.{held_below, mended, dropped_at, how_many}
 use Rattle.repairs.specs.Steps.{kept_at, mended_to}
 
 -- ---- one line

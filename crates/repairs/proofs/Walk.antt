@@ -10,7 +10,7 @@ use Rattle.board.specs.Lists.{bit}
 use Rattle.board.specs.declared.Shape.{Shape}
 use Rattle.board.specs.declared.Home.{Home}
 use Rattle.lines.specs.Holds.{holds_at}
-use Rattle.stores.specs.Stores.{Store, store}
+use Rattle.stores.specs.Stores.{store}
 use Rattle.visits.specs.Visits.{sweep}
 use Rattle.visits.proofs.Visits.{sweep-more, sweep-end}
 use Rattle.doubles.specs.Trees.{Tree, Placed}

@@ -1,6 +1,6 @@
 -- The contract of `repair`: the report, the board after it and the flags, whatever stands in the scratch; and where the call is refused or the lengths are
 -- wrong the scratch stays as it was.
-use Rattle.std.specs.Prelude.{ℕ, ◌≡◌, false, ◌&&◌, eqb, length}
+use Rattle.std.specs.Prelude.{◌≡◌, false, ◌&&◌, eqb, length}
 use Rattle.board.specs.declared.Shape.{Shape}
 use Rattle.stores.specs.Lent.{Buffer}
 use Rattle.machine.specs.Boards.{Board, fits_board, with_store}

@@ -1,6 +1,6 @@
 -- 02, CR 13: the repair. It writes nothing to memory and only drops lines, keeping every line that breaks no rule alone or with a lower line that is
 -- kept; wrong lengths and doubled pages are reported and nothing is changed.
-use Rattle.std.specs.Prelude.{ℕ, zero, suc, ◌+◌, Bool, true, false, not, ◌&&◌, ◌||◌, cond, List, eqb, length}
+use Rattle.std.specs.Prelude.{ℕ, zero, suc, ◌+◌, Bool, false, not, ◌&&◌, ◌||◌, cond, List, eqb, length}
 use Rattle.board.specs.Lists.{bit}
 use Rattle.board.specs.declared.Shape.{Shape}
 use Rattle.board.specs.declared.Found.{Found}

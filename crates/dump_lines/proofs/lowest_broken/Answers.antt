@@ -1,5 +1,4 @@
 -- `lowest_broken` looks from record to record: the search from `i` on is the whole.
-use Prim.Native.Nat.{◌-◌}
 use mathlib.Core.Path.{◌∙◌, sym}
 use native.Mathlib.Nat.{sub-zero}
 use Rattle.board.proofs.Searches.{first-here, first_more, first-end}

@@ -1,5 +1,4 @@
 -- `place_keys` puts the key of each place: those below `i` stand.
-use Prim.Native.Nat.{◌-◌}
 use native.Mathlib.Omega.{arith}
 use Rattle.pages.specs.Pages.{home_of}
 use Rattle.stores.specs.Stores.{store}

@@ -1,5 +1,4 @@
 -- `same_line` compares byte by byte: those below `k` are equal.
-use Prim.Native.Nat.{◌-◌}
 use borrow.Author.Count.{below_more}
 use Rattle.dump_lines.proofs.Lines.{same-line-all, same-line-not}
 use borrow.Author.Rules.{rules}

@@ -1,5 +1,4 @@
 -- `page_keys` puts the key of each frame: those below `f` stand.
-use Prim.Native.Nat.{◌-◌}
 use Rattle.dump_pages.specs.Pages.{page_at}
 use Rattle.doubles.proofs.Keys.{keys-more, keys-all}
 use native.Mathlib.Omega.{arith}

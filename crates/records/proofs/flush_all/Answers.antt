@@ -1,7 +1,7 @@
 -- `flush_all` decides, and walks all lines if the answer is 0.
 use Rattle.std.proofs.Common.{◌<◌, ◌≡◌, length, sym, eqb, arith, ◌∙◌, ap}
 use Rattle.visits.specs.Visits.{flush_visit}
-use Rattle.record_steps.specs.Checks.{Placed, turns_when}
+use Rattle.record_steps.specs.Checks.{turns_when}
 use Rattle.record_steps.proofs.Decided.{turns-within, turn-done, number_fits, fit-placed, flush-met}
 use Rattle.records.proofs.Upto.{upto-none, walked-more, walked-all, memory_length, memory-none, flushed-more, flushed-all}
 use Rattle.records.proofs.flush_all.Goals as goal

@@ -1,5 +1,4 @@
 -- `repair_lines` mends place by place.
-use Prim.Native.Nat.{◌-◌}
 use native.Mathlib.Omega.{arith}
 use Rattle.repairs.proofs.Walk.{going_start, going-record, going-count, going_more, going-store, going-flags, going-total}
 use borrow.Author.Rules.{rules}

@@ -1,5 +1,4 @@
 -- `all_accesses`: after i turns the answers so far, and what the rest leaves, are what the whole list leaves.
-use Prim.Native.Nat.{◌-◌}
 use mathlib.Core.Path.{refl}
 use Rattle.user_lists.proofs.Lists.{kept-fit, list-start, list-more, list-end}
 use borrow.Author.Rules.{rules}
