@@ -12,7 +12,6 @@ use Rattle.board.specs.declared.Shape.{Shape}
 use Rattle.board.specs.declared.Found.{Found}
 use Rattle.board.specs.declared.Found.TheVariants.{At, Nothing}
 use Rattle.board.specs.declared.Home.{Home}
-use Rattle.board.proofs.Bools.{and_left}
 use Rattle.board.proofs.Searches.{first-at}
 use Rattle.board.proofs.Shapes.{shaped}
 use Rattle.pages.specs.Pages.{home_of}
@@ -20,12 +19,12 @@ use Rattle.stores.specs.Stores.{Store}
 use Rattle.stores.specs.Lent.{Buffer}
 use Rattle.machine.specs.Boards.{Board, fits_board}
 use Rattle.dump_pages.specs.Pages.{doubled_page}
-use Rattle.dump_lines.specs.Lines.{doubled_line, astray, stale}
+use Rattle.dump_lines.specs.Lines.{doubled_line}
 use Rattle.dumps.specs.declared.Report.{Report}
-use Rattle.dumps.specs.Checks.{report, yes, too_short, or_else, from_rule2, from_rule3, from_rule4, from_rule5, checked, room_for, check_call}
+use Rattle.dumps.specs.Checks.{report, too_short, or_else, from_rule2, from_rule3, checked, room_for, check_call}
 use Rattle.dumps.specs.Clauses.{Check}
 use Rattle.repairs.specs.Clauses.{Repair}
-use Rattle.repairs.specs.Repairs.{Repaired, repaired, dropped_at, dropped_count, mended_lines, mended_pages, repair_board, repair_call}
+use Rattle.repairs.specs.Repairs.{Repaired, repaired, dropped_at, mended_pages, repair_board, repair_call}
 use Rattle.repairs.proofs.Repairs.{how-many-most}
 use Rattle.oaledva_dump.specs.Reports.{number_unit, rule_unit, dropped_unit, unpacked, Small, ReportsFit}
 

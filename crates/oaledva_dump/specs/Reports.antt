@@ -1,6 +1,6 @@
 -- How a report crosses to C and Rust: as one number of 64 bits, number × 2^56 + rule × 2^48 + dropped × 2^24 + place. A contract reads the report off
 -- that number.
-use Rattle.std.specs.Prelude.{ℕ, ◌+◌, ◌*◌, ◌/◌, ◌%◌, ◌≤◌, ◌<◌, ◌^◌, ◌≡◌, List}
+use Rattle.std.specs.Prelude.{ℕ, ◌/◌, ◌%◌, ◌≤◌, ◌<◌, ◌^◌, ◌≡◌, List}
 use Rattle.board.specs.declared.Shape.{Shape}
 use Rattle.machine.specs.Boards.{Board}
 use Rattle.dumps.specs.declared.Report.{Report}
