@@ -21,10 +21,11 @@ replay:
 
 # The static library, proved: target/lib/liboaledva.a. The toolchain writes an archive for each crate that exports: user access,
 # lists of it and the other calls, for a cache with one place for each line and for one with sets of four; logs; and the checker and the
-# repair of dumped boards. Their pieces go into one, each as it is. On another processor than x86-64, AR names an ar for x86-64.
+# repair of dumped boards. Their pieces go into one, each as it is, for any x86-64. On another processor than that, AR names an ar for
+# x86-64.
 PIECES = oaledva oaledva_user oaledva_list oaledva_sets oaledva_sets_user oaledva_sets_list oaledva_log_c oaledva_dump
 library:
-	set -e; for piece in $(PIECES); do (cd crates/$$piece && rt lib); done
+	set -e; for piece in $(PIECES); do (cd crates/$$piece && rt lib --cpu x86-64); done
 	@mkdir -p target/lib
 	@rm -f target/lib/liboaledva.a
 	@printf '%s\n' 'create target/lib/liboaledva.a' $(foreach piece,$(PIECES),'addlib crates/$(piece)/out/lib$(piece).a') save end | $(AR) -M
