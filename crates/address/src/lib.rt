@@ -4,7 +4,7 @@
 ghost use Rattle.std.specs.Prelude.{◌≡◌, ◌/◌, ◌<◌, ◌^◌};
 ghost use Rattle.address.specs.Layout.{page_bytes, prefix_bytes, page_end};
 ghost use Rattle.address.specs.Addresses.{slot_of, global_of, page_of, name_of, physical_line_of, frame_of_physical, prefix_of, region_of, physical_of, in_frame, entry_of, is_kernels, attachable, ordinary_page};
-ghost use Rattle.address.specs.Entries.{AskedEntry};
+ghost use Rattle.address.specs.Entries.{has_entry, AskedEntry};
 
 // An address as a process brings it: 32 bits.
 #[derive(Clone, Copy)]
@@ -25,13 +25,6 @@ pub enum Region {
     Cached,
     PageTable,
     Ordinary,
-}
-
-// What asking for the page table entry of a page gives: where it stands, or a refusal.
-#[derive(Clone, Copy)]
-pub enum Entry {
-    At(Global),
-    Refused,
 }
 
 // The sizes of 01's address layout.
@@ -165,29 +158,33 @@ fn entry_of(page: u64) -> Global
     Global(TABLE_INDEX * TABLE_BYTES + 4 * page)
 }
 
-// The page table entry of a page, for whoever asks: any number may be brought.
-pub fn asked_entry(page: u64) -> Entry
+// A page that has an entry.
+fn has_entry(page: u64) -> bool
+    ensures { result ≡ has_entry page }
+{
+    (FIRST_PAGE..PAGE_END).contains(&page)
+}
+
+// The page table entry of a page, for whoever asks: any number may be brought, and one that is no page with an entry gives none.
+pub fn asked_entry(page: u64) -> Option<Global>
     ensures { AskedEntry page result }
 {
-    if page < FIRST_PAGE {
-        return Entry::Refused;
+    if has_entry(page) {
+        return Some(entry_of(page));
     }
-    if PAGE_END <= page {
-        return Entry::Refused;
-    }
-    Entry::At(entry_of(page))
+    None
 }
 
 // A segment that may be attached.
 pub fn attachable_segment(segment: u64) -> bool
     ensures { result ≡ attachable segment }
 {
-    (FIRST_SEGMENT <= segment) & (segment <= LAST_SEGMENT)
+    (FIRST_SEGMENT..=LAST_SEGMENT).contains(&segment)
 }
 
 // A page that may be mapped.
 pub fn ordinary_page(page: u64) -> bool
     ensures { result ≡ ordinary_page page }
 {
-    (FIRST_PAGE <= page) & (page <= LAST_PAGE)
+    (FIRST_PAGE..=LAST_PAGE).contains(&page)
 }

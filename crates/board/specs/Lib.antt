@@ -1,4 +1,6 @@
 pub mod Lists
 pub mod Searches
+pub mod Homes
 pub mod Shapes
 pub mod Answers
+pub mod Refusals

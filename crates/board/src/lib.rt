@@ -1,10 +1,14 @@
 // 01, "The board": F, U, P and L, their limits and the lengths of the buffers (number 1), and what calls and searches give.
 #![tactic(auto)]
 
-ghost use Rattle.std.specs.Prelude.{◌≡◌, ◌*◌, ◌/◌, ◌≤◌, ◌<◌};
+ghost use Rattle.std.specs.Prelude.{◌≡◌, false, length, ◌*◌, ◌/◌, ◌≤◌, ◌<◌};
 ghost use Rattle.board.specs.Answers.{answer, mark_no_access, mark_of};
+ghost use Rattle.board.specs.Refusals.{number_of, number_of_mark, fit, call_answer, access_answer};
 ghost use Rattle.board.specs.Lists.{bit};
-ghost use Rattle.board.specs.Shapes.{edition_holds, limits_hold, matrices_of, lengths_agree, fits_shape, max_frames, max_processes, max_lines};
+ghost use Rattle.board.specs.Shapes.{one_line, four_lines, edition_holds, limits_hold, matrices_of, lengths_agree, fits_shape, max_frames, max_processes, max_lines};
+
+use std::error::Error;
+use std::fmt;
 
 // The numbers F, U, P and L of a board, and the lines in a set: 1 in 01's edition, 4 in that of sets of four (CR 4).
 #[derive(Clone, Copy)]
@@ -16,6 +20,60 @@ pub struct Shape {
     pub ways: usize,
 }
 
+impl Shape {
+    // A board of 01's edition.
+    pub fn one_line(frames: usize, uncached: usize, processes: usize, lines: usize) -> Shape
+        ensures { result ≡ one_line frames uncached processes lines }
+    {
+        Shape {
+            frames,
+            uncached,
+            processes,
+            lines,
+            ways: 1,
+        }
+    }
+
+    // A board of the edition with sets of four.
+    pub fn four_lines(frames: usize, uncached: usize, processes: usize, lines: usize) -> Shape
+        ensures { result ≡ four_lines frames uncached processes lines }
+    {
+        Shape {
+            frames,
+            uncached,
+            processes,
+            lines,
+            ways: SET_LINES,
+        }
+    }
+
+    // The buffers of a call fit, or number 1 refuses it.
+    pub fn fit(
+        self,
+        slots: &[u32],
+        words: &[u64],
+        records: &[u64],
+        cache: &[u8],
+        memory: &[u8],
+        uses: &[[[u8; 4]; 4]],
+    ) -> Result<(), Refusal>
+        ensures { result ≡ fit (fits_shape self (length slots.now) (length words.now) (length records.now) (length cache.now) (length memory.now) (length uses.now)) }
+    {
+        if fits(
+            self,
+            slots.len(),
+            words.len(),
+            records.len(),
+            cache.len(),
+            memory.len(),
+            uses.len(),
+        ) {
+            return Ok(());
+        }
+        Err(Refusal::Unfit)
+    }
+}
+
 // The pending tag: a line name, if one is set.
 #[derive(Clone, Copy)]
 pub struct Pending {
@@ -23,7 +81,19 @@ pub struct Pending {
     pub name: u64,
 }
 
-// What a call gives: 01's number, the value, and the mark, which says how an access went.
+impl Pending {
+    // Nothing pending.
+    pub fn none() -> Pending
+        ensures { (result.set ≡ false) × (result.name ≡ 0) }
+    {
+        Pending {
+            set: false,
+            name: 0,
+        }
+    }
+}
+
+// What a call gives, as it crosses to C and is printed: 01's number, the value, and the mark, which says how an access went.
 #[derive(Clone, Copy)]
 pub struct Answer {
     pub number: u32,
@@ -31,65 +101,139 @@ pub struct Answer {
     pub mark: u32,
 }
 
-// The marks (CR 8): refused, or not an access; the line was held; it was refilled; it was refilled, and the line that stood
-// there written back; the cache wasn't asked.
-pub const NO_ACCESS: u32 = 0;
+// The marks of accesses (CR 8): the line was held; it was refilled; it was refilled, and the line that stood there written back; the
+// cache wasn't asked. A refused call has none of them, nor has a call that is no access: 0.
+#[derive(Clone, Copy, Debug, PartialEq, Eq)]
+pub enum Mark {
+    Hit = 1,
+    Refilled = 2,
+    WroteBack = 3,
+    Uncached = 4,
+}
 
-pub const HIT: u32 = 1;
+impl Mark {
+    pub fn number(self) -> u32
+        ensures { result ≡ number_of_mark self }
+    {
+        self as u32
+    }
 
-pub const REFILLED: u32 = 2;
+    // The mark of an access by the cache: was its line held when it came, and was a line written back in that call.
+    pub fn by_cache(held: bool, back: bool) -> Mark
+        ensures { number_of_mark result ≡ mark_of held back }
+    {
+        if held {
+            return Mark::Hit;
+        }
+        if back {
+            return Mark::WroteBack;
+        }
+        Mark::Refilled
+    }
+}
 
-pub const WROTE_BACK: u32 = 3;
+// Why a call is refused: the table of refusal numbers.
+#[derive(Clone, Copy, Debug, PartialEq, Eq)]
+pub enum Refusal {
+    Unfit = 1,
+    OutOfRange = 2,
+    TagState = 3,
+    Misaligned = 4,
+    KernelAddress = 5,
+    EmptySlot = 6,
+    ReadOnlySegment = 7,
+    Unmapped = 8,
+    ReadOnlyPage = 9,
+    FrameInUse = 10,
+    AlreadyMapped = 11,
+    Outside = 12,
+    WrongLine = 13,
+}
 
-pub const UNCACHED: u32 = 4;
+impl Refusal {
+    pub fn number(self) -> u32
+        ensures { result ≡ number_of self }
+    {
+        self as u32
+    }
+}
 
-// An answer that is a number alone: a refusal, or 0 for a call that is no access. Value 0, and no mark.
-pub fn numbered(number: u32) -> Answer
+// In plain words, as 01's table has them.
+impl fmt::Display for Refusal {
+    fn fmt<W: fmt::Write>(&self, f: &mut fmt::Formatter<W>) -> fmt::Result {
+        f.write_str(match self {
+            Refusal::Unfit => "the buffers' lengths or F, U, P, L disagree or are out of limits",
+            Refusal::OutOfRange => "a number is outside its range",
+            Refusal::TagState => "a tag is pending, or none is where one has to be",
+            Refusal::Misaligned => "the width is not 1, 2 or 4, or the address no multiple of it",
+            Refusal::KernelAddress => "the address is the kernel's",
+            Refusal::EmptySlot => "the slot is empty",
+            Refusal::ReadOnlySegment => "the segment is attached read-only",
+            Refusal::Unmapped => "the page is not mapped",
+            Refusal::ReadOnlyPage => "the page is read-only",
+            Refusal::FrameInUse => "the frame is in use",
+            Refusal::AlreadyMapped => "the page is mapped already",
+            Refusal::Outside => "the address is past memory, or not reached in this way",
+            Refusal::WrongLine => "the tag is not mapped to this physical line",
+        })
+    }
+}
+
+impl Error for Refusal {}
+
+// What an access gives that is done: its value and its mark.
+#[derive(Clone, Copy)]
+pub struct Accessed {
+    pub value: u32,
+    pub mark: Mark,
+}
+
+// The answer of a call that gives no value: number 0, or a refusal's.
+impl From<Result<(), Refusal>> for Answer {
+    ghost from_gives = { λ r a. a ≡ call_answer r };
+
+    fn from(r: Result<(), Refusal>) -> Answer {
+        match r {
+            Ok(()) => numbered(0),
+            Err(why) => numbered(why.number()),
+        }
+    }
+}
+
+// The answer of an access.
+impl From<Result<Accessed, Refusal>> for Answer {
+    ghost from_gives = { λ r a. a ≡ access_answer r };
+
+    fn from(r: Result<Accessed, Refusal>) -> Answer {
+        match r {
+            Ok(a) => Answer {
+                number: 0,
+                value: a.value,
+                mark: a.mark.number(),
+            },
+            Err(why) => numbered(why.number()),
+        }
+    }
+}
+
+// An answer that is a number alone: value 0, and no mark.
+fn numbered(number: u32) -> Answer
     ensures { result ≡ answer number 0 mark_no_access }
 {
     Answer {
         number: number,
         value: 0,
-        mark: NO_ACCESS,
+        mark: NO_MARK,
     }
 }
 
-// The mark of an access by the cache: was its line held when it came, and was a line written back in that call.
-pub fn mark_of(held: bool, back: bool) -> u32
-    ensures { result ≡ mark_of held back }
-{
-    if held {
-        return HIT;
-    }
-    if back {
-        return WROTE_BACK;
-    }
-    REFILLED
-}
-
-// An access that is done: its value and its mark.
-pub fn accessed(value: u32, mark: u32) -> Answer
-    ensures { result ≡ answer 0 value mark }
-{
-    Answer {
-        number: 0,
-        value: value,
-        mark: mark,
-    }
-}
-
-// What a search finds.
-#[derive(Clone, Copy)]
-pub enum Found {
-    At(usize),
-    Nothing,
-}
+const NO_MARK: u32 = 0;
 
 // The physical line of a line name, and whether users may write it.
 #[derive(Clone, Copy)]
-pub enum Home {
-    Line(usize, bool),
-    Nowhere,
+pub struct Home {
+    pub line: usize,
+    pub write: bool,
 }
 
 // The most frames (01), processes and lines (CR 7).

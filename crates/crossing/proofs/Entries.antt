@@ -1,11 +1,10 @@
 -- The entry of a page as one number: the returns, and no second one.
+use Rattle.std.specs.Prelude.{Option, Some, None}
 use Prim.Native.Nat.{ℕ, ◌/◌, ◌%◌, ◌<◌}
 use mathlib.Core.Path.{◌≡◌, ◌∙◌, sym, ap}
 use native.Mathlib.Omega.{arith}
 use Rattle.address.specs.Layout.{global_end}
 use Rattle.address.specs.Entries.{asked_entry, entry_number, entry_value}
-use Rattle.address.specs.declared.Entry.{Entry}
-use Rattle.address.specs.declared.Entry.TheVariants.{At, Refused}
 use Rattle.address.specs.declared.Global.{Global}
 use Rattle.address.proofs.Entries.{asked_is}
 use Rattle.crossing.specs.Entries.{EntryReturned, OneEntryReturned}
@@ -16,8 +15,8 @@ one-entry-returned page r q p h =
     let v : r % global_end ≡ q % global_end = p.1 ∙ sym h.1 in
     omega (arith, n, v)
 
-module _ (page : ℕ) (e : Entry) (h : e ≡ asked_entry page) where
-  pub returned-at : (g : Global) → e ≡ At g → EntryReturned page g.0
+module _ (page : ℕ) (e : Option Global) (h : e ≡ asked_entry page) where
+  pub returned-at : (g : Global) → e ≡ Some g → EntryReturned page g.0
   unfolding entry_number entry_value
   returned-at g k =
       let i = asked_is page g (sym k ∙ h) in
@@ -26,6 +25,6 @@ module _ (page : ℕ) (e : Entry) (h : e ≡ asked_entry page) where
       let v : g.0 % global_end ≡ g.0 = omega (arith, b) in
       (n ∙ ap entry_number (sym k ∙ h), v ∙ ap entry_value (sym k ∙ h))
 
-  pub returned-refused : e ≡ Refused → (r : ℕ) → r / global_end ≡ 2 → r % global_end ≡ 0 → EntryReturned page r
+  pub returned-refused : e ≡ None → (r : ℕ) → r / global_end ≡ 2 → r % global_end ≡ 0 → EntryReturned page r
   unfolding entry_number entry_value
   returned-refused k r n v = (n ∙ ap entry_number (sym k ∙ h), v ∙ ap entry_value (sym k ∙ h))

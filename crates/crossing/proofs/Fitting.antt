@@ -1,4 +1,5 @@
 -- The answers of the calls fit the packing: a refusal has one of the numbers of its table, and every mark is below 5.
+use Rattle.std.specs.Prelude.{Option, Some, None}
 use Prim.Native.Nat.{ℕ, zero, suc, ◌<◌}
 use mathlib.Core.Path.{◌≡◌, refl, sym, subst}
 use mathlib.Core.Bool.{Bool, true, false, not, ◌&&◌, cond}
@@ -21,7 +22,7 @@ use Rattle.lines.specs.Victims.{Uses}
 use Rattle.stores.specs.Stores.{Store}
 use Rattle.stores.specs.declared.Access.{Access}
 use Rattle.reach.specs.declared.Way.{Way}
-use Rattle.reach.specs.declared.Way.TheVariants.{Held, InMemory, Missing}
+use Rattle.reach.specs.declared.Way.TheVariants.{Held, InMemory}
 use Rattle.machine.specs.Boards.{Board, Outcome, outcome, refused}
 use Rattle.machine.specs.Lists.{Asked, Answered, access_on, one_by_one, Listed, listed, taken, list_refused, list_done, user_accesses}
 use Rattle.machine.specs.Refusals.{Row, by_table}
@@ -57,11 +58,11 @@ small-mark true back = omega arith
 small-mark false true = omega arith
 small-mark false false = omega arith
 
-small-way : (s : Shape) (to name offset : ℕ) (a : Access) (b : Store) (w : Way) → Small (accessed_by s to name offset a b w).answer
+small-way : (s : Shape) (to name offset : ℕ) (a : Access) (b : Store) (w : Option Way) → Small (accessed_by s to name offset a b w).answer
 unfolding accessed_by performed_on
-small-way s to name offset a b (Held i write) = record { number_below = omega arith; mark_below = small-mark true false }
-small-way s to name offset a b (InMemory line write) = record { number_below = omega arith; mark_below = small-mark false _ }
-small-way s to name offset a b Missing = record { number_below = omega arith; mark_below = omega arith }
+small-way s to name offset a b (Some (Held i write)) = record { number_below = omega arith; mark_below = small-mark true false }
+small-way s to name offset a b (Some (InMemory line write)) = record { number_below = omega arith; mark_below = small-mark false _ }
+small-way s to name offset a b None = record { number_below = omega arith; mark_below = omega arith }
 
 small_line : (s : Shape) (words : List ℕ) (g : Global) (a : Access) (b : Store) (uses : Uses)
     → Small (accessed s words g a b uses).reached.answer

@@ -6,7 +6,7 @@ ghost use Rattle.std.specs.Prelude.{◌≡◌};
 ghost use Rattle.crossing.specs.Packing.{unpacked, Small, word_after};
 ghost use Rattle.crossing.specs.Entries.{EntryReturned};
 
-use address::{Entry, GLOBAL_END};
+use address::GLOBAL_END;
 use board::Answer;
 
 const NUMBER_UNIT: u64 = 72057594037927936;
@@ -26,8 +26,8 @@ pub fn returned_entry(page: u64) -> u64
     ensures { EntryReturned page result }
 {
     match address::asked_entry(page) {
-        Entry::At(g) => g.0,
-        Entry::Refused => 2 * GLOBAL_END,
+        Some(g) => g.0,
+        None => 2 * GLOBAL_END,
     }
 }
 

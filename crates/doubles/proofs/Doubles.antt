@@ -1,4 +1,5 @@
 -- The lowest place whose key a higher place has too: what a walk over the places knows of it.
+use Rattle.std.specs.Prelude.{Some, None}
 use Prim.Native.Nat.{ℕ, zero, suc, ◌+◌, ◌-◌, ◌≤◌, ◌<◌}
 use mathlib.Core.Path.{◌≡◌, ◌∙◌, sym, refl}
 use mathlib.Core.Bool.{Bool, true, false, not, ◌||◌}
@@ -8,7 +9,6 @@ use native.Mathlib.Omega.{arith}
 use lib.Dec.{eqb}
 use lib.ListN.{length, get_or}
 use borrow.Author.Tests.{eq-eqb, ne_eqb, eqb-true, eqb-false, not-true, lt-ltb, le-ltb}
-use Rattle.board.specs.declared.Found.TheVariants.{At, Nothing}
 use Rattle.board.proofs.Bools.{clash, and_left, and_right, or_right}
 use Rattle.board.specs.Searches.{first}
 use Rattle.board.proofs.Searches.{first-is, first-none}
@@ -120,8 +120,8 @@ module _ (keys : List ℕ) (best i : ℕ) (b : Best keys best i) (h : length key
   below-best : (k : ℕ) → k < best → repeats keys k ≡ false
   below-best k l = repeats-false keys k (λ g x y e. b.none_lower k g l x (omega arith) e)
 
-  pub best-at : best < length keys → At best ≡ first (repeats keys) 0 (length keys)
+  pub best-at : best < length keys → Some best ≡ first (repeats keys) 0 (length keys)
   best-at l = sym (first-is (repeats keys) 0 (length keys) best (omega arith) (omega arith) (λ k x y. below-best k y) (b.again l))
 
-  pub best_none : length keys ≤ best → Nothing ≡ first (repeats keys) 0 (length keys)
+  pub best_none : length keys ≤ best → None ≡ first (repeats keys) 0 (length keys)
   best_none l = sym (first-none (repeats keys) 0 (length keys) (λ k x y. below-best k (omega arith)))

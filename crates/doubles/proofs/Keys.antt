@@ -1,4 +1,5 @@
 -- The keys of places: put into a list one by one, and searched; no key stands twice exactly if the search finds nothing.
+use Rattle.std.specs.Prelude.{Option, Some, None}
 use Prim.Native.Nat.{ℕ, zero, suc, ◌+◌, ◌≤◌, ◌<◌}
 use mathlib.Core.Path.{◌≡◌, ◌∙◌, sym, refl, ap}
 use mathlib.Core.Logic.{⊎_elim, ◌≢◌}
@@ -9,8 +10,6 @@ use borrow.Author.Count.{below_more}
 use lib.ListN.{length, get_or, set, get_or-eq_default}
 use lib.Seq.{get_or-set_same, get_or-set_other, ext_get_or}
 use Rattle.board.specs.Searches.{first}
-use Rattle.board.specs.declared.Found.{Found}
-use Rattle.board.specs.declared.Found.TheVariants.{At, Nothing}
 use Rattle.board.proofs.Bools.{clash}
 use Rattle.board.proofs.Searches.{first-at, first-nothing, first-none}
 use Rattle.doubles.specs.Doubles.{repeats, keys_from, keys_of, first_double}
@@ -49,7 +48,7 @@ module _ (key : ℕ → ℕ) where
       (lt-or-le g n)
 
   -- a list of these keys searched
-  pub searched : (keys : List ℕ) (n m : ℕ) (r : Found) → keys ≡ keys_of key n → n ≡ m → r ≡ first (repeats keys) 0 (length keys) → r ≡ first_double key m
+  pub searched : (keys : List ℕ) (n m : ℕ) (r : Option ℕ) → keys ≡ keys_of key n → n ≡ m → r ≡ first (repeats keys) 0 (length keys) → r ≡ first_double key m
   searched keys n m r e q h =
       let z : length keys ≡ m = ap length e ∙ length-keys 0 n ∙ q in
       let y : keys ≡ keys_of key m = rw (← q) e in
@@ -60,7 +59,7 @@ module _ (key : ℕ → ℕ) where
     key-repeats f g a b l z q =
         repeats-true (keys_of key n) f g l (rw (length-keys 0 n) b) (keys-at n g b ∙ sym q ∙ sym (keys-at n f a)) (λ y. z (sym (keys-at n f a) ∙ y))
 
-    pub none-twice : first_double key n ≡ Nothing → (f g : ℕ) → f < n → g < n → key f ≢ 0 → key f ≡ key g → f ≡ g
+    pub none-twice : first_double key n ≡ None → (f g : ℕ) → f < n → g < n → key f ≢ 0 → key f ≡ key g → f ≡ g
     none-twice e f g a b z q = ⊎_elim
         (λ l. clash _ (key-repeats f g a b l z q) (first-nothing (repeats (keys_of key n)) 0 n f e (omega arith) (omega arith)))
         (λ l. ⊎_elim
@@ -68,7 +67,7 @@ module _ (key : ℕ → ℕ) where
         (λ m. omega arith) (lt-or-le g f))
         (lt-or-le f g)
 
-    pub twice-none : ((f g : ℕ) → f < n → g < n → key f ≢ 0 → key f ≡ key g → f ≡ g) → first_double key n ≡ Nothing
+    pub twice-none : ((f g : ℕ) → f < n → g < n → key f ≢ 0 → key f ≡ key g → f ≡ g) → first_double key n ≡ None
     twice-none once =
         first-none (repeats (keys_of key n)) 0 n (λ k l h. repeats-false (keys_of key n) k (λ g x y e. no_key k g (omega arith) x (rw (length-keys 0 n) at y) e))
       where
@@ -86,7 +85,7 @@ module _ (key : ℕ → ℕ) where
       pub same_key : key f ≡ key again
       pub lowest : (k g : ℕ) → k < f → g < n → k ≢ g → key k ≢ 0 → key k ≡ key g → ⊥
 
-    pub double-at : (f : ℕ) → first_double key n ≡ At f → Double f
+    pub double-at : (f : ℕ) → first_double key n ≡ Some f → Double f
     double-at f e =
         let a = first-at (repeats (keys_of key n)) 0 n f e in
         let b = repeats-is (keys_of key n) f a.passes in

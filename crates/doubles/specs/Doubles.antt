@@ -1,7 +1,6 @@
 -- Keys that stand more than once. A key of 0 is no key.
-use Rattle.std.specs.Prelude.{ℕ, zero, suc, ◌-◌, Bool, false, not, ◌&&◌, ◌||◌, List, [], ◌∷◌, length, get_or, eqb}
+use Rattle.std.specs.Prelude.{ℕ, zero, suc, ◌-◌, Bool, false, not, ◌&&◌, ◌||◌, List, [], ◌∷◌, length, get_or, eqb, Option}
 use Rattle.board.specs.Searches.{first}
-use Rattle.board.specs.declared.Found.{Found}
 
 -- the key stands at one of the n places from i on
 unfoldable pub stands : List ℕ → ℕ → ℕ → ℕ → Bool
@@ -21,5 +20,5 @@ abbrev pub keys_of : (ℕ → ℕ) → ℕ → List ℕ
 keys_of key n = keys_from key 0 n
 
 -- the lowest of n places whose key a higher one has too
-abbrev pub first_double : (ℕ → ℕ) → ℕ → Found
+abbrev pub first_double : (ℕ → ℕ) → ℕ → Option ℕ
 first_double key n = first (repeats (keys_of key n)) 0 n

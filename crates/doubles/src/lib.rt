@@ -7,7 +7,6 @@ ghost use Rattle.doubles.specs.Trees.{Tree, Sought, Placed, lower_of};
 ghost use Rattle.board.specs.Searches.{first};
 ghost use Rattle.doubles.specs.Doubles.{repeats};
 
-use board::Found;
 
 // Where the search for a key ends: at a place that has the key, or at an open link.
 #[derive(Clone, Copy)]
@@ -87,7 +86,7 @@ fn lower_of(best: usize, at: usize, i: usize) -> usize
 }
 
 // The lowest place whose key a higher place has too, with two links for each key.
-fn double_in(keys: &[u64], links: &mut [u64]) -> Found
+fn double_in(keys: &[u64], links: &mut [u64]) -> Option<usize>
     requires { 2 * length keys.now ≤ length links.old }
     ensures { (result ≡ first (repeats keys.now) 0 (length keys.now)) × (length links.new ≡ length links.old) }
 {
@@ -100,13 +99,13 @@ fn double_in(keys: &[u64], links: &mut [u64]) -> Found
         i += 1;
     }
     if best < keys.len() {
-        return Found::At(best);
+        return Some(best);
     }
-    Found::Nothing
+    None
 }
 
 // The same, of links that may hold anything: two for each key, and those behind them are not touched.
-pub fn lowest_double(keys: &[u64], links: &mut [u64]) -> Found
+pub fn lowest_double(keys: &[u64], links: &mut [u64]) -> Option<usize>
     requires { 2 * length keys.now ≤ length links.old }
     ensures { (result ≡ first (repeats keys.now) 0 (length keys.now)) × (length links.new ≡ length links.old) }
 {

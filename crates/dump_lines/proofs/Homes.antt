@@ -1,4 +1,5 @@
 -- Rule 4: where no page has two frames, a line's own frame tells whether the line is at home.
+use Rattle.std.specs.Prelude.{Option, Some, None}
 use Prim.Native.Nat.{ℕ, ◌+◌, ◌*◌, ◌/◌, ◌%◌, ◌≤◌, ◌<◌}
 use mathlib.Core.Path.{◌≡◌, ◌∙◌, sym, refl}
 use mathlib.Core.Bool.{Bool, true, false, ◌&&◌, cond}
@@ -10,12 +11,10 @@ use lib.ListN.{length, get_or}
 use Rattle.address.specs.Layout.{page_lines, prefix_lines}
 use Rattle.address.specs.Addresses.{ordinary_page}
 use Rattle.pages.specs.Pages.{names_page, word_writes, mapped_to, free_frame, direct_home, home_by, home_of}
+use Rattle.board.specs.Homes.{at_line}
 use Rattle.board.specs.Shapes.{max_frames}
 use Rattle.board.specs.declared.Shape.{Shape}
-use Rattle.board.specs.declared.Found.{Found}
-use Rattle.board.specs.declared.Found.TheVariants.{At, Nothing}
 use Rattle.board.specs.declared.Home.{Home}
-use Rattle.board.specs.declared.Home.TheVariants.{Line as HomeLine, Nowhere}
 use Rattle.board.proofs.Bools.{clash, and_left, and_right}
 use Rattle.lines.specs.declared.Line.{Line}
 use Rattle.page_laws.proofs.Maps.{word-names, ordinary-low, mapped-frame, mapped-nothing, mapped-home, Homed, direct, mapped, homed}
@@ -42,14 +41,14 @@ bit-same : (a : Bool) → same_bit a a ≡ true
 bit-same true = refl
 bit-same false = refl
 
-pub home-is : (h : Home) (p : ℕ) (w : Bool) → home_is h p w ≡ true → h ≡ HomeLine p w
+pub home-is : (h : Option Home) (p : ℕ) (w : Bool) → home_is h p w ≡ true → h ≡ Some (at_line p w)
 unfolding home_is
-home-is (HomeLine line write) p w e =
-    let a : line ≡ p = eqb-true line p (and_left (eqb line p) (same_bit write w) e) in
-    let b : write ≡ w = same_bit_lem write w (and_right (eqb line p) (same_bit write w) e) in rw (a, b)
-home-is Nowhere p w e = clash false e refl
+home-is (Some hm) p w e =
+    let a : hm.line ≡ p = eqb-true hm.line p (and_left (eqb hm.line p) (same_bit hm.write w) e) in
+    let b : hm.write ≡ w = same_bit_lem hm.write w (and_right (eqb hm.line p) (same_bit hm.write w) e) in rw (a, b)
+home-is None p w e = clash false e refl
 
-pub is_home : (h : Home) (p : ℕ) (w : Bool) → h ≡ HomeLine p w → home_is h p w ≡ true
+pub is_home : (h : Option Home) (p : ℕ) (w : Bool) → h ≡ Some (at_line p w) → home_is h p w ≡ true
 unfolding home_is
 is_home h p w e = rw (e, eq-eqb p p refl) (bit-same w)
 
@@ -69,7 +68,7 @@ module _ (s : Shape) (words : List ℕ) (l : Line) (size : length words ≡ s.fr
   abbrev word : ℕ
   word = own_word words l
 
-  page-home : s.uncached ≤ own_frame l → ordinary_test words l ≡ true → home_of s words l.name ≡ HomeLine l.physical l.write
+  page-home : s.uncached ≤ own_frame l → ordinary_test words l ≡ true → home_of s words l.name ≡ Some (at_line l.physical l.write)
   page-home u e₁ =
       let odd = eqb-true (word % 2) 1 (and_left (eqb (word % 2) 1) _ e₁) in
       let e₂ = and_right (eqb (word % 2) 1) _ e₁ in
@@ -79,15 +78,15 @@ module _ (s : Shape) (words : List ℕ) (l : Line) (size : length words ≡ s.fr
       let w = same_bit_lem (word_writes word) l.write (and_right (eqb (l.name % page_lines) (l.physical % page_lines)) _ e₃) in
       go (mapped_to s words (l.name / page_lines)) refl (word-names word (l.name / page_lines) page odd) low w
     where
-      go : (found : Found) → mapped_to s words (l.name / page_lines) ≡ found → names_page word (l.name / page_lines) ≡ true
-          → l.name % page_lines ≡ l.physical % page_lines → word_writes word ≡ l.write → home_of s words l.name ≡ HomeLine l.physical l.write
-      go (At g) e n low w =
+      go : (found : Option ℕ) → mapped_to s words (l.name / page_lines) ≡ found → names_page word (l.name / page_lines) ≡ true
+          → l.name % page_lines ≡ l.physical % page_lines → word_writes word ≡ l.write → home_of s words l.name ≡ Some (at_line l.physical l.write)
+      go (Some g) e n low w =
           let m = mapped-frame s words (l.name / page_lines) g e in
           let q : g ≡ own_frame l = once (l.name / page_lines) g (own_frame l) o m.from (omega (arith, m.inside)) u (omega arith) m.names n in
           let p : g * page_lines + l.name % page_lines ≡ l.physical = omega arith in
           let v : word_writes (get_or words g 0) ≡ l.write = rw q w in
           mapped-home s words l.name g e ∙ rw (p, v)
-      go Nothing e n low w = clash _ n (mapped-nothing s words (l.name / page_lines) o e (own_frame l) u (omega arith))
+      go None e n low w = clash _ n (mapped-nothing s words (l.name / page_lines) o e (own_frame l) u (omega arith))
 
   home-page : Homed s words l.name l.physical l.write → (s.uncached ≤ own_frame l) × (ordinary_test words l ≡ true)
   home-page (direct a b c d e f) = absurd (omega (arith, ordinary-low (l.name / page_lines) o))
@@ -101,14 +100,14 @@ module _ (s : Shape) (words : List ℕ) (l : Line) (size : length words ≡ s.fr
 
 module _ (s : Shape) (words : List ℕ) (l : Line) (few : s.frames ≤ max_frames) (inside : l.physical < page_lines * s.frames)
     (o : ordinary_page (l.name / page_lines) ≡ false) where
-  direct-line : s.uncached ≤ own_frame l → get_or words (own_frame l) 0 ≡ 0 → l.name ≡ prefix_lines + l.physical → direct_home s words l.name ≡ HomeLine l.physical true
+  direct-line : s.uncached ≤ own_frame l → get_or words (own_frame l) 0 ≡ 0 → l.name ≡ prefix_lines + l.physical → direct_home s words l.name ≡ Some (at_line l.physical true)
   unfolding direct_home free_frame
   direct-line u z n =
       let one : l.name / prefix_lines ≡ 1 = omega arith in
       let low : l.name % prefix_lines ≡ l.physical = omega arith in
       rw (one, low, le-leb s.uncached (own_frame l) u, lt-ltb (own_frame l) s.frames (omega arith), z)
 
-  direct-home : s.uncached ≤ own_frame l → direct_test words l ≡ true → home_of s words l.name ≡ HomeLine l.physical l.write
+  direct-home : s.uncached ≤ own_frame l → direct_test words l ≡ true → home_of s words l.name ≡ Some (at_line l.physical l.write)
   unfolding home_of home_by mapped_to
   direct-home u e =
       let z = eqb-true (own_word words l) 0 (and_left (eqb (own_word words l) 0) _ e) in
@@ -138,21 +137,21 @@ module _ (s : Shape) (words : List ℕ) (l : Line) where
     unfolding in_frame
     frame-direct h = rw (le-leb s.uncached (own_frame l) u, ← o, h)
 
-  module _ (size : length words ≡ s.frames) (few : s.frames ≤ max_frames) (inside : l.physical < page_lines * s.frames) (d : doubled_page s words ≡ Nothing) where
+  module _ (size : length words ≡ s.frames) (few : s.frames ≤ max_frames) (inside : l.physical < page_lines * s.frames) (d : doubled_page s words ≡ None) where
     once : Once s words
     once = pages_once s words d
 
-    frame-home : in_frame s words l ≡ true → home_of s words l.name ≡ HomeLine l.physical l.write
+    frame-home : in_frame s words l ≡ true → home_of s words l.name ≡ Some (at_line l.physical l.write)
     unfolding in_frame
     frame-home e = go (ordinary_page (l.name / page_lines)) refl (leb-true s.uncached (own_frame l) (and_left (leb s.uncached (own_frame l)) _ e)) (and_right (leb s.uncached (own_frame l)) _ e)
       where
         go : (t : Bool) → ordinary_page (l.name / page_lines) ≡ t → s.uncached ≤ own_frame l
             → cond t (ordinary_test words l) (direct_test words l) ≡ true
-            → home_of s words l.name ≡ HomeLine l.physical l.write
+            → home_of s words l.name ≡ Some (at_line l.physical l.write)
         go true o u h = page-home s words l size inside once o u h
         go false o u h = direct-home s words l few inside o u h
 
-    home-frame : home_of s words l.name ≡ HomeLine l.physical l.write → in_frame s words l ≡ true
+    home-frame : home_of s words l.name ≡ Some (at_line l.physical l.write) → in_frame s words l ≡ true
     unfolding in_frame
     home-frame e = go (ordinary_page (l.name / page_lines)) refl (homed s words l.name l.physical l.write e)
       where

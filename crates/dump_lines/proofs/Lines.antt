@@ -1,4 +1,5 @@
 -- Rules 3 to 5, record by record: what the code's tests and keys are; two lines compared byte by byte.
+use Rattle.std.specs.Prelude.{Option, None}
 use Prim.Native.Nat.{ℕ, ◌+◌, ◌*◌, ◌≤◌, ◌<◌}
 use mathlib.Core.Path.{◌≡◌, ◌∙◌, sym, refl}
 use mathlib.Core.Bool.{Bool, true, false, not, ◌&&◌, ◌||◌, cond}
@@ -12,8 +13,6 @@ use Rattle.pages.specs.Pages.{home_of}
 use Rattle.board.specs.Searches.{first}
 use Rattle.board.specs.Shapes.{max_frames}
 use Rattle.board.specs.declared.Shape.{Shape}
-use Rattle.board.specs.declared.Found.{Found}
-use Rattle.board.specs.declared.Found.TheVariants.{Nothing}
 use Rattle.board.specs.declared.Home.{Home}
 use Rattle.board.proofs.Bools.{clash, and_left, and_right}
 use Rattle.line_bytes.specs.Bytes.{line_of}
@@ -73,7 +72,7 @@ module _ (rule : ℕ) (s : Shape) (words records cache memory : List ℕ) (i : �
       go false = refl
 
   pub broken-astray : (r : Bool) → t ≡ true → rule ≡ 4 → r ≡ in_frame s words l → length words ≡ s.frames → s.frames ≤ max_frames → l.physical < page_lines * s.frames
-      → doubled_page s words ≡ Nothing → not r ≡ line_breaks rule s (home_of s words) x i
+      → doubled_page s words ≡ None → not r ≡ line_breaks rule s (home_of s words) x i
   unfolding line_breaks astray holds_at
   broken-astray r y q f size few inside d =
       let a : r ≡ at_home (home_of s words) l = f ∙ frame-tells s words l size few inside d in
@@ -88,14 +87,14 @@ module _ (rule : ℕ) (s : Shape) (words records cache memory : List ℕ) (i : �
     unfolding line_breaks stale holds_at
     broken-stale r d q = rw (ne_eqb rule 4 n, ← e, ← h, y, d, q)
 
-module _ (s : Shape) (home : ℕ → Home) (x : Store) (i : ℕ) where
+module _ (s : Shape) (home : ℕ → Option Home) (x : Store) (i : ℕ) where
   pub breaks-either : (a b : Bool) → a ≡ line_breaks 4 s home x i → b ≡ line_breaks 5 s home x i → (a || b) ≡ breaks_alone s home x i
   unfolding line_breaks breaks_alone
   breaks-either a b e f = rw (e, f)
 
 -- ---- keys of places
 
-module _ (fine : Bool) (s : Shape) (home : ℕ → Home) (records cache memory : List ℕ) (i : ℕ) (l : Line) (e : l ≡ line_at records i) (t : Bool) (h : t ≡ holds_line s i l) where
+module _ (fine : Bool) (s : Shape) (home : ℕ → Option Home) (records cache memory : List ℕ) (i : ℕ) (l : Line) (e : l ≡ line_at records i) (t : Bool) (h : t ≡ holds_line s i l) where
   pub key-none : t ≡ false → 0 ≡ place_key fine s home (store records cache memory) i
   unfolding place_key held_line holds_at
   key-none y = rw (← e, ← h, y) (go (fine && breaks_alone s home (store records cache memory) i))
@@ -118,7 +117,7 @@ module _ (fine : Bool) (s : Shape) (home : ℕ → Home) (records cache memory :
       unfolding place_key
       key-broken z = rw (f, ← q, z)
 
-pub doubled-line-by : (s : Shape) (home : ℕ → Home) (records cache memory keys : List ℕ) (n : ℕ) (r : Found)
+pub doubled-line-by : (s : Shape) (home : ℕ → Option Home) (records cache memory keys : List ℕ) (n : ℕ) (r : Option ℕ)
     → keys ≡ keys_of (place_key false s home (store records cache memory)) n → n ≡ s.lines → r ≡ first (repeats keys) 0 (length keys) → r ≡ doubled_line s records
 unfolding doubled_line place_key
 doubled-line-by s home records cache memory keys n r e q h = searched (held_line s records) keys n s.lines r e q h

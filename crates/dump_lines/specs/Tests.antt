@@ -1,5 +1,5 @@
 -- How the code inside tests lines. No call's definition needs this.
-use Rattle.std.specs.Prelude.{ℕ, ◌+◌, ◌/◌, ◌%◌, Bool, ◌&&◌, cond, List, eqb, leb, get_or}
+use Rattle.std.specs.Prelude.{ℕ, ◌+◌, ◌/◌, ◌%◌, Bool, ◌&&◌, cond, List, eqb, leb, get_or, Option}
 use Rattle.address.specs.Layout.{page_lines, prefix_lines}
 use Rattle.address.specs.Addresses.{ordinary_page}
 use Rattle.board.specs.declared.Shape.{Shape}
@@ -26,9 +26,9 @@ in_frame s words l =
     (eqb (own_word words l) 0 && (eqb l.name (prefix_lines + l.physical) && l.write))
 
 -- record i breaks rule 4, or rule 5
-unfoldable pub line_breaks : ℕ → Shape → (ℕ → Home) → Store → ℕ → Bool
+unfoldable pub line_breaks : ℕ → Shape → (ℕ → Option Home) → Store → ℕ → Bool
 line_breaks rule s home x i = cond (eqb rule 4) (astray s home x i) (stale s x i)
 
 -- the key of place i; with `fine`, only of a line that breaks no rule alone
-unfoldable pub place_key : Bool → Shape → (ℕ → Home) → Store → ℕ → ℕ
+unfoldable pub place_key : Bool → Shape → (ℕ → Option Home) → Store → ℕ → ℕ
 place_key fine s home x i = cond (fine && breaks_alone s home x i) 0 (held_line s x.records i)

@@ -6,7 +6,6 @@ ghost use Rattle.std.specs.Prelude.{◌≡◌, ◌+◌, ◌*◌, ◌≤◌, ◌<
 ghost use Rattle.address.specs.Layout.{line_bytes, page_lines};
 ghost use Rattle.board.specs.Searches.{first};
 ghost use Rattle.board.specs.Shapes.{max_frames};
-ghost use Rattle.board.specs.declared.Found.TheVariants.{Nothing};
 ghost use Rattle.pages.specs.Pages.{home_of};
 ghost use Rattle.line_bytes.specs.Bytes.{line_of};
 ghost use Rattle.stores.specs.Premises.{Sized};
@@ -17,7 +16,7 @@ ghost use Rattle.dump_lines.specs.Lines.{same_bit, same_list, breaks_alone, doub
 ghost use Rattle.dump_lines.specs.Tests.{in_frame, line_breaks, place_key};
 
 use address::{PAGE_NAMES, ordinary_page};
-use board::{Found, LINE_BYTES, Shape};
+use board::{LINE_BYTES, Shape};
 use lines::Line;
 
 // The rules by their numbers: a line at home, and one that equals memory.
@@ -80,7 +79,7 @@ fn is_broken(
     memory: &[u8],
     i: usize,
 ) -> bool
-    requires { Sized s records.now cache.now memory.now × (length words.now ≡ s.frames) × (doubled_page s words.now ≡ Nothing) × (i < s.lines) }
+    requires { Sized s records.now cache.now memory.now × (length words.now ≡ s.frames) × (doubled_page s words.now ≡ None) × (i < s.lines) }
     ensures { result ≡ line_breaks rule s (home_of s words.now) (store_of records.now cache.now memory.now) i }
 {
     let l = lines::line_at(records, i);
@@ -106,19 +105,19 @@ pub fn lowest_broken(
     records: &[u64],
     cache: &[u8],
     memory: &[u8],
-) -> Found
-    requires { Sized s records.now cache.now memory.now × (length words.now ≡ s.frames) × (doubled_page s words.now ≡ Nothing) }
+) -> Option<usize>
+    requires { Sized s records.now cache.now memory.now × (length words.now ≡ s.frames) × (doubled_page s words.now ≡ None) }
     ensures { result ≡ first (line_breaks rule s (home_of s words.now) (store_of records.now cache.now memory.now)) 0 s.lines }
 {
     let lines = s.lines;
     let mut i: usize = 0;
     while i < lines {
         if is_broken(rule, s, words, records, cache, memory, i) {
-            return Found::At(i);
+            return Some(i);
         }
         i += 1;
     }
-    Found::Nothing
+    None
 }
 
 // Record `i` holds a line that breaks a rule alone.
@@ -130,7 +129,7 @@ fn breaks_alone(
     memory: &[u8],
     i: usize,
 ) -> bool
-    requires { Sized s records.now cache.now memory.now × (length words.now ≡ s.frames) × (doubled_page s words.now ≡ Nothing) × (i < s.lines) }
+    requires { Sized s records.now cache.now memory.now × (length words.now ≡ s.frames) × (doubled_page s words.now ≡ None) × (i < s.lines) }
     ensures { result ≡ breaks_alone s (home_of s words.now) (store_of records.now cache.now memory.now) i }
 {
     let astray = is_broken(AT_HOME, s, words, records, cache, memory, i);
@@ -148,7 +147,7 @@ fn place_key(
     memory: &[u8],
     i: usize,
 ) -> u64
-    requires { Sized s records.now cache.now memory.now × (length words.now ≡ s.frames) × (doubled_page s words.now ≡ Nothing) × (i < s.lines) }
+    requires { Sized s records.now cache.now memory.now × (length words.now ≡ s.frames) × (doubled_page s words.now ≡ None) × (i < s.lines) }
     ensures { result ≡ place_key fine s (home_of s words.now) (store_of records.now cache.now memory.now) i }
 {
     let l = lines::line_at(records, i);
@@ -173,7 +172,7 @@ pub fn place_keys(
     memory: &[u8],
     keys: &mut [u64],
 )
-    requires { Sized s records.now cache.now memory.now × (length words.now ≡ s.frames) × (doubled_page s words.now ≡ Nothing) × (length keys.old ≡ s.lines) }
+    requires { Sized s records.now cache.now memory.now × (length words.now ≡ s.frames) × (doubled_page s words.now ≡ None) × (length keys.old ≡ s.lines) }
     ensures { keys.new ≡ keys_of (place_key fine s (home_of s words.now) (store_of records.now cache.now memory.now)) (length keys.old) }
 {
     let mut i: usize = 0;
@@ -192,8 +191,8 @@ pub fn doubled_line(
     memory: &[u8],
     keys: &mut [u64],
     links: &mut [u64],
-) -> Found
-    requires { Sized s records.now cache.now memory.now × (length words.now ≡ s.frames) × (doubled_page s words.now ≡ Nothing) × (length keys.old ≡ s.lines) × (2 * s.lines ≤ length links.old) }
+) -> Option<usize>
+    requires { Sized s records.now cache.now memory.now × (length words.now ≡ s.frames) × (doubled_page s words.now ≡ None) × (length keys.old ≡ s.lines) × (2 * s.lines ≤ length links.old) }
     ensures { result ≡ doubled_line s records.now }
 {
     place_keys(false, s, words, records, cache, memory, keys);

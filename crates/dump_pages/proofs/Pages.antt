@@ -1,4 +1,5 @@
 -- The page of a frame, read off its word; and what the search for a doubled page tells.
+use Rattle.std.specs.Prelude.{Option, None}
 use Prim.Native.Nat.{ℕ, ◌/◌, ◌%◌, ◌≤◌, ◌<◌}
 use mathlib.Core.Path.{◌≡◌, ◌∙◌, sym, refl}
 use mathlib.Core.Logic.{◌≢◌}
@@ -12,8 +13,6 @@ use Rattle.address.specs.Addresses.{ordinary_page}
 use Rattle.pages.specs.Pages.{names_page}
 use Rattle.board.specs.Searches.{first}
 use Rattle.board.specs.declared.Shape.{Shape}
-use Rattle.board.specs.declared.Found.{Found}
-use Rattle.board.specs.declared.Found.TheVariants.{Nothing}
 use Rattle.board.proofs.Bools.{and_left, and_right}
 use Rattle.page_laws.proofs.Maps.{names-word, word-names, ordinary-low}
 use Rattle.doubles.specs.Doubles.{repeats, keys_of}
@@ -39,7 +38,7 @@ module _ (s : Shape) (words : List ℕ) (f : ℕ) where
       unfolding page_at page_in
       page-other q = rw (le-leb s.uncached f h, eq-eqb (get_or words f 0 % 2) 1 e, ← o, q)
 
-pub doubled-page-by : (s : Shape) (words keys : List ℕ) (n : ℕ) (r : Found) → keys ≡ keys_of (page_at s words) n → n ≡ s.frames
+pub doubled-page-by : (s : Shape) (words keys : List ℕ) (n : ℕ) (r : Option ℕ) → keys ≡ keys_of (page_at s words) n → n ≡ s.frames
     → r ≡ first (repeats keys) 0 (length keys) → r ≡ doubled_page s words
 unfolding doubled_page
 doubled-page-by s words keys n r e q h = searched (page_at s words) keys n s.frames r e q h
@@ -76,14 +75,14 @@ Once s words =
     → names_page (get_or words f 0) page ≡ true → names_page (get_or words g 0) page ≡ true → f ≡ g
 
 module _ (s : Shape) (words : List ℕ) where
-  pub pages_once : doubled_page s words ≡ Nothing → Once s words
+  pub pages_once : doubled_page s words ≡ None → Once s words
   unfolding doubled_page
   pages_once e page f g o uf hf ug hg nf ng =
       let kf = names-page s words f page uf o nf in
       let kg = names-page s words g page ug o ng in
       none-twice (page_at s words) s.frames e f g hf hg (λ z. omega (arith, ordinary-low page o, kf, z)) (kf ∙ sym kg)
 
-  pub once-pages : Once s words → doubled_page s words ≡ Nothing
+  pub once-pages : Once s words → doubled_page s words ≡ None
   unfolding doubled_page
   once-pages once = twice-none (page_at s words) s.frames (λ f g hf hg z q.
       let a = page-names s words f z in

@@ -6,7 +6,7 @@ ghost use Rattle.doubles.specs.Doubles.{keys_of};
 ghost use Rattle.dump_pages.specs.Pages.{page_at, doubled_page};
 
 use address::ordinary_page;
-use board::{Found, Shape};
+use board::{Shape};
 
 // The ordinary page that the word of a frame from U up names; 0 if there is none.
 fn page_at(s: Shape, words: &[u64], f: usize) -> u64
@@ -38,7 +38,7 @@ fn page_keys(s: Shape, words: &[u64], keys: &mut [u64])
 }
 
 // The lowest frame from U up whose page a higher frame names too. Keys and links may hold anything.
-pub fn doubled_page(s: Shape, words: &[u64], keys: &mut [u64], links: &mut [u64]) -> Found
+pub fn doubled_page(s: Shape, words: &[u64], keys: &mut [u64], links: &mut [u64]) -> Option<usize>
     requires { (length words.now ≡ s.frames) × (length keys.old ≡ s.frames) × (2 * s.frames ≤ length links.old) }
     ensures { result ≡ doubled_page s words.now }
 {

@@ -1,4 +1,5 @@
 -- The two calls, by their contracts; and how often a search turns.
+use Rattle.std.specs.Prelude.{Option}
 use Prim.Native.Nat.{ℕ, ◌+◌, ◌/◌, ◌%◌, ◌^◌, ◌≤◌, ◌<◌}
 use mathlib.Core.Path.{◌≡◌, ◌∙◌, sym, refl, ap}
 use mathlib.Core.Logic.{◌⊎◌, ⊎_elim}
@@ -135,7 +136,7 @@ page-below s words f = go (leb s.uncached f) (eqb (get_or words f 0 % 2) 1 && or
     go true false e = omega arith
     go false u e = omega arith
 
-line-below : (fine : Bool) (s : Shape) (home : ℕ → Home) (x : Store) → s.frames ≤ max_frames → (i : ℕ) → place_key fine s home x i < 2 ^ 29
+line-below : (fine : Bool) (s : Shape) (home : ℕ → Option Home) (x : Store) → s.frames ≤ max_frames → (i : ℕ) → place_key fine s home x i < 2 ^ 29
 unfolding place_key held_line
 line-below fine s home x few i = go (fine && breaks_alone s home x i) (holds_at s x.records i) refl
   where

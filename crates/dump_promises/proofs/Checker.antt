@@ -1,4 +1,5 @@
 -- The checker is right: it finds the first broken rule and the lowest place in it, or the board is sound. Stands on Rules.
+use Rattle.std.specs.Prelude.{Option, Some, None}
 use Prim.Native.Nat.{ℕ, ◌*◌, ◌≤◌, ◌<◌}
 use mathlib.Core.Path.{◌≡◌, ◌∙◌, sym, refl, ap}
 use mathlib.Core.Logic.{⊎_elim, ◌≢◌}
@@ -7,8 +8,6 @@ use native.Mathlib.Omega.{arith}
 use lib.ListN.{length}
 use Rattle.board.specs.Searches.{first}
 use Rattle.board.specs.declared.Shape.{Shape}
-use Rattle.board.specs.declared.Found.{Found}
-use Rattle.board.specs.declared.Found.TheVariants.{At, Nothing}
 use Rattle.board.proofs.Bools.{clash}
 use Rattle.board.proofs.Searches.{first-at}
 use Rattle.board.specs.declared.Home.{Home}
@@ -50,7 +49,7 @@ pub data Verdict (s : Shape) (b : Board) (r : Report) : Type 0 where
 -- ---- rule after rule: what is found is the first broken rule, as long as no earlier one is broken
 
 module _ (s : Shape) (b : Board) (fits : fits_board s b ≡ true) where
-  abbrev home : ℕ → Home
+  abbrev home : ℕ → Option Home
   home = home_of s b.words
 
   size : length b.store.records ≡ 2 * s.lines
@@ -67,7 +66,7 @@ module _ (s : Shape) (b : Board) (fits : fits_board s b ≡ true) where
   keeps-2 r k h (astray a) = absurd (omega arith)
   keeps-2 r k h (stale a) = absurd (omega arith)
 
-  module _ (pages : doubled_page s b.words ≡ Nothing) where
+  module _ (pages : doubled_page s b.words ≡ None) where
     keeps-3 : KeepsBelow 3
     keeps-3 r k h (lengths n) = n fits
     keeps-3 r k h (page_twice t) =
@@ -76,7 +75,7 @@ module _ (s : Shape) (b : Board) (fits : fits_board s b ≡ true) where
     keeps-3 r k h (astray a) = absurd (omega arith)
     keeps-3 r k h (stale a) = absurd (omega arith)
 
-    module _ (lines : doubled_line s b.store.records ≡ Nothing) where
+    module _ (lines : doubled_line s b.store.records ≡ None) where
       keeps-4 : KeepsBelow 4
       keeps-4 r k h (line_twice t) = t.another (lines_once s b.store size lines k t.other t.here t.there t.same_line)
       keeps-4 r k h (lengths n) = n fits
@@ -84,7 +83,7 @@ module _ (s : Shape) (b : Board) (fits : fits_board s b ≡ true) where
       keeps-4 r k h (astray a) = absurd (omega arith)
       keeps-4 r k h (stale a) = absurd (omega arith)
 
-      module _ (homes : first (tests.astray s home b.store) 0 s.lines ≡ Nothing) where
+      module _ (homes : first (tests.astray s home b.store) 0 s.lines ≡ None) where
         keeps-5 : KeepsBelow 5
         keeps-5 r k h (astray a) = a.elsewhere (lines_mapped s b.words b.store size homes k a.here)
         keeps-5 r k h (lengths n) = n fits
@@ -92,9 +91,9 @@ module _ (s : Shape) (b : Board) (fits : fits_board s b ≡ true) where
         keeps-5 r k h (line_twice t) = keeps-4 3 k (omega arith) (line_twice t)
         keeps-5 r k h (stale a) = absurd (omega arith)
 
-        by-5 : (found : Found) → first (tests.stale s b.store) 0 s.lines ≡ found → Verdict s b (or_else 5 found yes)
+        by-5 : (found : Option ℕ) → first (tests.stale s b.store) 0 s.lines ≡ found → Verdict s b (or_else 5 found yes)
         unfolding or_else
-        by-5 (At i) e =
+        by-5 (Some i) e =
             let f = first-at (tests.stale s b.store) 0 s.lines i e in
             broken 5 i record {
               broken = stale (stale-is s b.words b.store i f.passes);
@@ -104,7 +103,7 @@ module _ (s : Shape) (b : Board) (fits : fits_board s b ≡ true) where
           where
             stale-lower : (k : ℕ) → Breaks s b 5 k → (Stale s b.store k → ⊥) → ⊥
             stale-lower k (stale a) f = f a
-        by-5 Nothing e =
+        by-5 None e =
             sound record {
               shape_holds = fits;
               pages_once = pages_once s b.words pages;
@@ -113,9 +112,9 @@ module _ (s : Shape) (b : Board) (fits : fits_board s b ≡ true) where
               clean_lines_equal = clean-lines s b.words b.store size e;
             } refl
 
-      by_4 : (found : Found) → first (tests.astray s home b.store) 0 s.lines ≡ found → Verdict s b (or_else 4 found (from_rule5 s b.store))
+      by_4 : (found : Option ℕ) → first (tests.astray s home b.store) 0 s.lines ≡ found → Verdict s b (or_else 4 found (from_rule5 s b.store))
       unfolding or_else
-      by_4 (At i) e =
+      by_4 (Some i) e =
           let f = first-at (tests.astray s home b.store) 0 s.lines i e in
           broken 4 i record {
             broken = astray (astray-is s b.words b.store i f.passes);
@@ -125,11 +124,11 @@ module _ (s : Shape) (b : Board) (fits : fits_board s b ≡ true) where
         where
           astray-lower : (k : ℕ) → Breaks s b 4 k → (Astray s b.words b.store k → ⊥) → ⊥
           astray-lower k (astray a) f = f a
-      by_4 Nothing e = by-5 e (first (tests.stale s b.store) 0 s.lines) refl
+      by_4 None e = by-5 e (first (tests.stale s b.store) 0 s.lines) refl
 
-    by-3 : (found : Found) → doubled_line s b.store.records ≡ found → Verdict s b (or_else 3 found (from_rule4 s home b.store))
+    by-3 : (found : Option ℕ) → doubled_line s b.store.records ≡ found → Verdict s b (or_else 3 found (from_rule4 s home b.store))
     unfolding or_else
-    by-3 (At i) e =
+    by-3 (Some i) e =
         broken 3 i record {
           broken = line_twice (doubled-line-twice s b.store i e);
           lowest = λ k h x. twice-lower k x (λ t. doubled-line-lowest s b.store size i k e h t);
@@ -138,11 +137,11 @@ module _ (s : Shape) (b : Board) (fits : fits_board s b ≡ true) where
       where
         twice-lower : (k : ℕ) → Breaks s b 3 k → (LineTwice s b.store k → ⊥) → ⊥
         twice-lower k (line_twice t) f = f t
-    by-3 Nothing e = by_4 e (first (tests.astray s home b.store) 0 s.lines) refl
+    by-3 None e = by_4 e (first (tests.astray s home b.store) 0 s.lines) refl
 
-  by_2 : (found : Found) → doubled_page s b.words ≡ found → Verdict s b (or_else 2 found (from_rule3 s home b.store))
+  by_2 : (found : Option ℕ) → doubled_page s b.words ≡ found → Verdict s b (or_else 2 found (from_rule3 s home b.store))
   unfolding or_else
-  by_2 (At f) e =
+  by_2 (Some f) e =
       broken 2 f record {
         broken = page_twice (doubled-page-twice s b.words f e);
         lowest = λ k h x. twice-lower k x (λ t. doubled-page-lowest s b.words f k e h t);
@@ -151,7 +150,7 @@ module _ (s : Shape) (b : Board) (fits : fits_board s b ≡ true) where
     where
       twice-lower : (k : ℕ) → Breaks s b 2 k → (PageTwice s b.words k → ⊥) → ⊥
       twice-lower k (page_twice t) f = f t
-  by_2 Nothing e = by-3 e (doubled_line s b.store.records) refl
+  by_2 None e = by-3 e (doubled_line s b.store.records) refl
 
 pub verdict : (s : Shape) (b : Board) → Verdict s b (checked s b)
 unfolding checked

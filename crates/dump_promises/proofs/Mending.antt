@@ -1,4 +1,5 @@
 -- The repair, place by place: what is left at each, once all are mended.
+use Rattle.std.specs.Prelude.{Option}
 use Prim.Native.Nat.{ℕ, zero, suc, ◌+◌, ◌*◌, ◌≤◌, ◌<◌}
 use mathlib.Core.Path.{◌≡◌, ◌∙◌, sym, refl, ap}
 use mathlib.Core.Logic.{◌⊎◌, inl, inr, ⊎_elim}
@@ -30,7 +31,7 @@ below_put s r i l line (suc n) h =
     let later = below_put s r i l line n (omega arith) in
     rw (a, b, later)
 
-module _ (s : Shape) (home : ℕ → Home) (c m : List ℕ) where
+module _ (s : Shape) (home : ℕ → Option Home) (c m : List ℕ) where
   abbrev alone : List ℕ → ℕ → Bool
   alone r i = breaks_alone s home (store r c m) i
 

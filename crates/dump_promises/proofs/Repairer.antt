@@ -1,4 +1,5 @@
 -- The repair is right. Stands on Mending and on the checker.
+use Rattle.std.specs.Prelude.{Option, Some, None}
 use Prim.Native.Nat.{ℕ, zero, suc, ◌+◌, ◌*◌, ◌/◌, ◌≤◌, ◌<◌}
 use mathlib.Core.Path.{◌≡◌, ◌∙◌, sym, refl, ap}
 use mathlib.Core.Logic.{◌⊎◌, inl, inr, ⊎_elim, ◌≢◌}
@@ -11,8 +12,6 @@ use lib.Dec.{eqb}
 use Rattle.board.specs.Lists.{bit}
 use Rattle.board.specs.Searches.{first}
 use Rattle.board.specs.declared.Shape.{Shape}
-use Rattle.board.specs.declared.Found.{Found}
-use Rattle.board.specs.declared.Found.TheVariants.{At, Nothing}
 use Rattle.board.specs.declared.Home.{Home}
 use Rattle.board.proofs.Bools.{clash, and_left, and_right, or-false}
 use Rattle.pages.specs.Pages.{home_of}
@@ -45,39 +44,39 @@ use Rattle.dump_promises.proofs.Mending.{Left, none, keeps, drops, Good, repaire
 
 data Sort (s : Shape) (b : Board) : Type 0 where
   unfit : fits_board s b ≡ false → Sort s b
-  doubled : fits_board s b ≡ true → (frame : ℕ) → doubled_page s b.words ≡ At frame → Sort s b
-  mendable : fits_board s b ≡ true → doubled_page s b.words ≡ Nothing → Sort s b
+  doubled : fits_board s b ≡ true → (frame : ℕ) → doubled_page s b.words ≡ Some frame → Sort s b
+  mendable : fits_board s b ≡ true → doubled_page s b.words ≡ None → Sort s b
 
 sort : (s : Shape) (b : Board) → Sort s b
 sort s b = go (fits_board s b) (doubled_page s b.words) refl refl
   where
-    go : (t : Bool) (f : Found) → fits_board s b ≡ t → doubled_page s b.words ≡ f → Sort s b
+    go : (t : Bool) (f : Option ℕ) → fits_board s b ≡ t → doubled_page s b.words ≡ f → Sort s b
     go false f h e = unfit h
-    go true (At frame) h e = doubled h frame e
-    go true Nothing h e = mendable h e
+    go true (Some frame) h e = doubled h frame e
+    go true None h e = mendable h e
 
 -- rules 1 and 2 are not among those from 3 on
-from-3 : (s : Shape) (home : ℕ → Home) (x : Store) → ((from_rule3 s home x).rule ≡ 0) ⊎ (3 ≤ (from_rule3 s home x).rule)
+from-3 : (s : Shape) (home : ℕ → Option Home) (x : Store) → ((from_rule3 s home x).rule ≡ 0) ⊎ (3 ≤ (from_rule3 s home x).rule)
 unfolding or_else
 from-3 s home x = go (doubled_line s x.records) (first (astray s home x) 0 s.lines) (first (stale s x) 0 s.lines)
   where
-    go : (f g h : Found) → ((or_else 3 f (or_else 4 g (or_else 5 h yes))).rule ≡ 0) ⊎ (3 ≤ (or_else 3 f (or_else 4 g (or_else 5 h yes))).rule)
-    go (At i) g h = inr (omega arith)
-    go Nothing (At i) h = inr (omega arith)
-    go Nothing Nothing (At i) = inr (omega arith)
-    go Nothing Nothing Nothing = inl refl
+    go : (f g h : Option ℕ) → ((or_else 3 f (or_else 4 g (or_else 5 h yes))).rule ≡ 0) ⊎ (3 ≤ (or_else 3 f (or_else 4 g (or_else 5 h yes))).rule)
+    go (Some i) g h = inr (omega arith)
+    go None (Some i) h = inr (omega arith)
+    go None None (Some i) = inr (omega arith)
+    go None None None = inl refl
 
 module _ (s : Shape) (b : Board) (flags : List ℕ) where
   unfit-left : fits_board s b ≡ false → (checked s b ≡ report 1 0) × (repair_board s b flags ≡ repair_outcome (report 1 0) b.store flags)
   unfolding checked repair_board
   unfit-left h = (rw h, rw h)
 
-  doubled-left : (frame : ℕ) → fits_board s b ≡ true → doubled_page s b.words ≡ At frame
+  doubled-left : (frame : ℕ) → fits_board s b ≡ true → doubled_page s b.words ≡ Some frame
       → (checked s b ≡ report 2 frame) × (repair_board s b flags ≡ repair_outcome (report 2 frame) b.store flags)
   unfolding checked repair_board or_else mended_pages
   doubled-left frame h e = (rw (h, e), rw (h, e))
 
-  mendable-is : fits_board s b ≡ true → doubled_page s b.words ≡ Nothing
+  mendable-is : fits_board s b ≡ true → doubled_page s b.words ≡ None
       → (checked s b ≡ from_rule3 s (home_of s b.words) b.store) × (repair_board s b flags ≡ mended_lines s (home_of s b.words) b.store)
   unfolding checked repair_board or_else mended_pages
   mendable-is h e = (rw (h, e), rw (h, e))
@@ -117,8 +116,8 @@ module _ (s : Shape) (b : Board) (i : ℕ) where
 
 -- ---- the repaired board is sound
 
-module _ (s : Shape) (b : Board) (fits : fits_board s b ≡ true) (pages : doubled_page s b.words ≡ Nothing) where
-  abbrev home : ℕ → Home
+module _ (s : Shape) (b : Board) (fits : fits_board s b ≡ true) (pages : doubled_page s b.words ≡ None) where
+  abbrev home : ℕ → Option Home
   home = home_of s b.words
 
   abbrev r₀ : List ℕ

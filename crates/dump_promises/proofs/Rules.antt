@@ -1,5 +1,6 @@
 -- The rules as the checker tests them and as they are stated: what a search finds breaks its rule, nothing lower does, and where it finds nothing the
 -- rule holds.
+use Rattle.std.specs.Prelude.{Some, None}
 use Prim.Native.Nat.{ℕ, ◌+◌, ◌*◌, ◌<◌}
 use mathlib.Core.Path.{◌≡◌, ◌∙◌, sym, refl, ap}
 use mathlib.Core.Logic.{◌≢◌}
@@ -8,10 +9,9 @@ use mathlib.Core.List.{List}
 use native.Mathlib.Omega.{arith}
 use borrow.Author.Tests.{not-true, not-false}
 use lib.ListN.{length}
+use Rattle.board.specs.Homes.{at_line}
 use Rattle.board.specs.Searches.{first}
 use Rattle.board.specs.declared.Shape.{Shape}
-use Rattle.board.specs.declared.Found.TheVariants.{At, Nothing}
-use Rattle.board.specs.declared.Home.TheVariants.{Line}
 use Rattle.board.proofs.Bools.{clash, and_left, and_right}
 use Rattle.board.proofs.Searches.{first-nothing}
 use Rattle.pages.specs.Pages.{home_of}
@@ -48,7 +48,7 @@ module _ (s : Shape) (words : List ℕ) where
   key-names : (frame : ℕ) → frame < s.frames → page_at s words frame ≢ 0 → Names s words frame (page_at s words frame)
   key-names frame h z = let a = page-names s words frame z in record { ordinary = a.1; from = a.0; inside = h; names = a.2 }
 
-  pub doubled-page-twice : (frame : ℕ) → doubled_page s words ≡ At frame → PageTwice s words frame
+  pub doubled-page-twice : (frame : ℕ) → doubled_page s words ≡ Some frame → PageTwice s words frame
   unfolding doubled_page
   doubled-page-twice frame e =
       let d = double-at (page_at s words) s.frames frame e in
@@ -60,7 +60,7 @@ module _ (s : Shape) (words : List ℕ) where
         there = rw d.same_key (key-names d.again d.again_inside (λ z. d.some_key (d.same_key ∙ z)));
       }
 
-  pub doubled-page-lowest : (frame k : ℕ) → doubled_page s words ≡ At frame → k < frame → PageTwice s words k → ⊥
+  pub doubled-page-lowest : (frame k : ℕ) → doubled_page s words ≡ Some frame → k < frame → PageTwice s words k → ⊥
   unfolding doubled_page
   doubled-page-lowest frame k e l t =
       let a = names_key k t.page t.here in
@@ -81,7 +81,7 @@ module _ (s : Shape) (x : Store) where
   some-line : (i : ℕ) → holds_at s x.records i ≡ true → held_line s x.records i ≢ 0
   some-line i h z = omega (arith, held-key i h, z)
 
-  pub doubled-line-twice : (place : ℕ) → doubled_line s x.records ≡ At place → LineTwice s x place
+  pub doubled-line-twice : (place : ℕ) → doubled_line s x.records ≡ Some place → LineTwice s x place
   unfolding doubled_line
   doubled-line-twice place e =
       let d = double-at (held_line s x.records) s.lines place e in
@@ -96,13 +96,13 @@ module _ (s : Shape) (x : Store) where
       }
 
   module _ (size : length x.records ≡ 2 * s.lines) where
-    pub doubled-line-lowest : (place k : ℕ) → doubled_line s x.records ≡ At place → k < place → LineTwice s x k → ⊥
+    pub doubled-line-lowest : (place k : ℕ) → doubled_line s x.records ≡ Some place → k < place → LineTwice s x k → ⊥
     unfolding doubled_line
     doubled-line-lowest place k e l t =
         (double-at (held_line s x.records) s.lines place e).lowest k t.other l (held-listed s x.records t.other s.lines size t.there) t.another
         (some-line k t.here) (held-key k t.here ∙ ap (λ (n : ℕ). n + 1) t.same_line ∙ sym (held-key t.other t.there))
 
-    pub lines_once : doubled_line s x.records ≡ Nothing → LinesOnce s x
+    pub lines_once : doubled_line s x.records ≡ None → LinesOnce s x
     unfolding doubled_line
     lines_once e i j hi hj q =
         none-twice (held_line s x.records) s.lines e i j (held-listed s x.records i s.lines size hi) (held-listed s x.records j s.lines size hj)
@@ -141,7 +141,7 @@ module _ (s : Shape) (words : List ℕ) (x : Store) (i : ℕ) where
 
   -- a held line that breaks neither
   pub home-of : astray s (home_of s words) x i ≡ false → holds_at s x.records i ≡ true
-      → home_of s words (line_at x.records i).name ≡ Line (line_at x.records i).physical (line_at x.records i).write
+      → home_of s words (line_at x.records i).name ≡ Some (at_line (line_at x.records i).physical (line_at x.records i).write)
   unfolding astray at_home
   home-of e h = home-is _ _ _ (not-false _ (rw h at e))
 
@@ -151,10 +151,10 @@ module _ (s : Shape) (words : List ℕ) (x : Store) (i : ℕ) where
   equal_of e h c = same_list_lem _ _ (not-false _ (rw (h, c) at e))
 
 module _ (s : Shape) (words : List ℕ) (x : Store) (size : length x.records ≡ 2 * s.lines) where
-  pub lines_mapped : first (astray s (home_of s words) x) 0 s.lines ≡ Nothing → LinesMapped s words x
+  pub lines_mapped : first (astray s (home_of s words) x) 0 s.lines ≡ None → LinesMapped s words x
   lines_mapped e i h =
       home-of s words x i (first-nothing (astray s (home_of s words) x) 0 s.lines i e (omega arith) (omega (arith, held-listed s x.records i s.lines size h))) h
 
-  pub clean-lines : first (stale s x) 0 s.lines ≡ Nothing → CleanLinesEqual s x
+  pub clean-lines : first (stale s x) 0 s.lines ≡ None → CleanLinesEqual s x
   clean-lines e i h c =
       equal_of s words x i (first-nothing (stale s x) 0 s.lines i e (omega arith) (omega (arith, held-listed s x.records i s.lines size h))) h c

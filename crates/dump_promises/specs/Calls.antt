@@ -1,6 +1,6 @@
 -- 02, CR 13: the two calls, by their contracts: when they are refused, and that what stands in the scratch does not matter. And how often the search turns
 -- that the tree of places is made for.
-use Rattle.std.specs.Prelude.{ℕ, ◌≤◌, ◌⊎◌, ◌≡◌, Bool, true, false, ◌&&◌, List, eqb, length}
+use Rattle.std.specs.Prelude.{ℕ, ◌≤◌, ◌⊎◌, ◌≡◌, Bool, true, false, ◌&&◌, List, eqb, length, Option}
 use Rattle.board.specs.Shapes.{max_frames}
 use Rattle.board.specs.declared.Shape.{Shape}
 use Rattle.board.specs.declared.Home.{Home}
@@ -67,6 +67,6 @@ pub record SearchesEnd : Type 0 where
   pub pages : (s : Shape) (words links : List ℕ) (n frame turns node : ℕ) → Tree (keys_of (page_at s words) s.frames) links n
       → Turned (keys_of (page_at s words) s.frames) links (page_at s words frame) turns node → turns ≤ 32
   -- for the physical line of a place, and one more: 29 bits. Of a check, and of a repair, which counts fine lines only
-  pub lines : (fine : Bool) (s : Shape) (home : ℕ → Home) (x : Store) (links : List ℕ) (n place turns node : ℕ) → s.frames ≤ max_frames
+  pub lines : (fine : Bool) (s : Shape) (home : ℕ → Option Home) (x : Store) (links : List ℕ) (n place turns node : ℕ) → s.frames ≤ max_frames
       → Tree (keys_of (place_key fine s home x) s.lines) links n → Turned (keys_of (place_key fine s home x) s.lines) links (place_key fine s home x place) turns node
       → turns ≤ 29

@@ -1,8 +1,8 @@
 -- 02, CR 13: what the checker's answer means. Places that break a rule, and the report they make.
-use Rattle.std.specs.Prelude.{ℕ, ◌≤◌, ◌<◌, ◌≢◌, ◌≡◌, true, false, List, get_or}
+use Rattle.std.specs.Prelude.{ℕ, ◌≤◌, ◌<◌, ◌≢◌, ◌≡◌, true, false, List, get_or, Some}
 use Rattle.address.specs.Addresses.{ordinary_page}
+use Rattle.board.specs.Homes.{at_line}
 use Rattle.board.specs.declared.Shape.{Shape}
-use Rattle.board.specs.declared.Home.TheVariants.{Line}
 use Rattle.pages.specs.Pages.{names_page, home_of}
 use Rattle.line_bytes.specs.Bytes.{line_of}
 use Rattle.lines.specs.Records.{line_at}
@@ -40,7 +40,7 @@ pub record LineTwice (s : Shape) (x : Store) (place : ℕ) : Type 0 where
 -- rule 4: its line's physical line is not the one its name maps to, or its permission is not that page's
 pub record Astray (s : Shape) (words : List ℕ) (x : Store) (place : ℕ) : Type 0 where
   pub here : holds_at s x.records place ≡ true
-  pub elsewhere : home_of s words (line_at x.records place).name ≢ Line (line_at x.records place).physical (line_at x.records place).write
+  pub elsewhere : home_of s words (line_at x.records place).name ≢ Some (at_line (line_at x.records place).physical (line_at x.records place).write)
 
 -- rule 5: its line is unchanged and differs from memory
 pub record Stale (s : Shape) (x : Store) (place : ℕ) : Type 0 where

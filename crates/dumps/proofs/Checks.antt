@@ -1,4 +1,5 @@
 -- What the checker says, rule after rule.
+use Rattle.std.specs.Prelude.{Option, Some, None}
 use Prim.Native.Nat.{ℕ, ◌*◌, ◌≤◌}
 use mathlib.Core.Path.{◌≡◌, ◌∙◌, sym, refl}
 use mathlib.Core.Bool.{Bool, true, false, ◌&&◌}
@@ -10,8 +11,6 @@ use Rattle.board.specs.Searches.{first}
 use Rattle.board.specs.Shapes.{fits_shape, max_frames, max_lines}
 use Rattle.board.specs.declared.Shape.{Shape}
 use Rattle.board.specs.declared.Pending.{Pending}
-use Rattle.board.specs.declared.Found.{Found}
-use Rattle.board.specs.declared.Found.TheVariants.{At, Nothing}
 use Rattle.board.specs.declared.Home.{Home}
 use Rattle.board.proofs.Bools.{clash, and_left, and_right}
 use Rattle.board.proofs.Searches.{first-same}
@@ -24,37 +23,37 @@ use Rattle.dump_lines.specs.Tests.{line_breaks}
 use Rattle.dumps.specs.Checks.{report, yes, too_short, or_else, from_rule2, from_rule4, checked, room_for, check_call}
 use Rattle.dumps.specs.declared.Report.{Report}
 
-module _ (rule : ℕ) (found target : Found) (later : Report) (e : found ≡ target) where
-  pub or_at : (place : ℕ) (r : Report) → found ≡ At place → r ≡ report rule place → r ≡ or_else rule target later
+module _ (rule : ℕ) (found target : Option ℕ) (later : Report) (e : found ≡ target) where
+  pub or_at : (place : ℕ) (r : Report) → found ≡ Some place → r ≡ report rule place → r ≡ or_else rule target later
   unfolding or_else
   or_at place r k q = rw (← e, k, q)
 
-  pub or_later : (r : Report) → found ≡ Nothing → r ≡ later → r ≡ or_else rule target later
+  pub or_later : (r : Report) → found ≡ None → r ≡ later → r ≡ or_else rule target later
   unfolding or_else
   or_later r k q = rw (← e, k, q)
 
 -- a search that finds nothing
-pub none-by : (found target : Found) → found ≡ target → found ≡ Nothing → target ≡ Nothing
+pub none-by : (found target : Option ℕ) → found ≡ target → found ≡ None → target ≡ None
 none-by found target e k = sym e ∙ k
 
 -- rules 4 and 5, one after the other
-module _ (s : Shape) (home : ℕ → Home) (x : Store) (found : Found) (e : found ≡ first (line_breaks 4 s home x) 0 s.lines) where
+module _ (s : Shape) (home : ℕ → Option Home) (x : Store) (found : Option ℕ) (e : found ≡ first (line_breaks 4 s home x) 0 s.lines) where
   by_4 : found ≡ first (astray s home x) 0 s.lines
   unfolding line_breaks
   by_4 = e ∙ first-same (astray s home x) (line_breaks 4 s home x) (λ k. refl) 0 s.lines
 
-  pub alone-astray : (i : ℕ) (r : Report) → found ≡ At i → r ≡ report 4 i → r ≡ from_rule4 s home x
+  pub alone-astray : (i : ℕ) (r : Report) → found ≡ Some i → r ≡ report 4 i → r ≡ from_rule4 s home x
   alone-astray i r k q = or_at 4 found _ _ by_4 i r k q
 
-  module _ (k : found ≡ Nothing) (next : Found) (f : next ≡ first (line_breaks 5 s home x) 0 s.lines) where
+  module _ (k : found ≡ None) (next : Option ℕ) (f : next ≡ first (line_breaks 5 s home x) 0 s.lines) where
     by-5 : next ≡ first (stale s x) 0 s.lines
     unfolding line_breaks
     by-5 = f ∙ first-same (stale s x) (line_breaks 5 s home x) (λ k. refl) 0 s.lines
 
-    pub alone-stale : (i : ℕ) (r : Report) → next ≡ At i → r ≡ report 5 i → r ≡ from_rule4 s home x
+    pub alone-stale : (i : ℕ) (r : Report) → next ≡ Some i → r ≡ report 5 i → r ≡ from_rule4 s home x
     alone-stale i r n q = or_later 4 found _ _ by_4 r k (or_at 5 next _ _ by-5 i r n q)
 
-    pub alone-fine : (r : Report) → next ≡ Nothing → r ≡ yes → r ≡ from_rule4 s home x
+    pub alone-fine : (r : Report) → next ≡ None → r ≡ yes → r ≡ from_rule4 s home x
     alone-fine r n q = or_later 4 found _ _ by_4 r k (or_later 5 next _ _ by-5 r n q)
 
 -- what an accepted shape gives, where there are no matrices

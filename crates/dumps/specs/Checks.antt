@@ -1,9 +1,7 @@
 -- 02, CR 13: the checker of a dumped board. It says yes, or gives the first broken rule and the lowest frame or place in it, 0 for lengths.
-use Rattle.std.specs.Prelude.{ℕ, ◌*◌, Bool, not, ◌&&◌, cond, List, leb}
+use Rattle.std.specs.Prelude.{ℕ, ◌*◌, Bool, not, ◌&&◌, cond, List, leb, Option, Some, None}
 use Rattle.board.specs.Searches.{first}
 use Rattle.board.specs.declared.Shape.{Shape}
-use Rattle.board.specs.declared.Found.{Found}
-use Rattle.board.specs.declared.Found.TheVariants.{At, Nothing}
 use Rattle.board.specs.declared.Home.{Home}
 use Rattle.pages.specs.Pages.{home_of}
 use Rattle.stores.specs.Stores.{Store}
@@ -25,20 +23,20 @@ abbrev pub too_short : Report
 too_short = record { number = 1; rule = 0; place = 0; dropped = 0 }
 
 -- a rule that is broken where something is found, else the rules after it
-unfoldable pub or_else : ℕ → Found → Report → Report
-or_else rule (At place) later = report rule place
-or_else rule Nothing later = later
+unfoldable pub or_else : ℕ → Option ℕ → Report → Report
+or_else rule (Some place) later = report rule place
+or_else rule None later = later
 
 -- every unchanged held line equals memory
 abbrev pub from_rule5 : Shape → Store → Report
 from_rule5 s x = or_else 5 (first (stale s x) 0 s.lines) yes
 
 -- each held line's physical line is the one its name maps to, with that page's permission
-abbrev pub from_rule4 : Shape → (ℕ → Home) → Store → Report
+abbrev pub from_rule4 : Shape → (ℕ → Option Home) → Store → Report
 from_rule4 s home x = or_else 4 (first (astray s home x) 0 s.lines) (from_rule5 s x)
 
 -- no physical line is held twice
-abbrev pub from_rule3 : Shape → (ℕ → Home) → Store → Report
+abbrev pub from_rule3 : Shape → (ℕ → Option Home) → Store → Report
 from_rule3 s home x = or_else 3 (doubled_line s x.records) (from_rule4 s home x)
 
 -- no page has two frames from U up

@@ -3,7 +3,6 @@
 
 ghost use Rattle.std.specs.Prelude.{◌≡◌, false, ◌*◌, ◌≤◌, length};
 ghost use Rattle.board.specs.Shapes.{max_frames, max_lines};
-ghost use Rattle.board.specs.declared.Found.TheVariants.{Nothing};
 ghost use Rattle.board.specs.declared.Pending.{Pending};
 ghost use Rattle.pages.specs.Pages.{home_of};
 ghost use Rattle.stores.specs.Premises.{Sized};
@@ -14,7 +13,7 @@ ghost use Rattle.dumps.specs.Clauses.{Check};
 ghost use Rattle.machine.specs.Boards.{board};
 ghost use Rattle.stores.specs.Lent.{lent};
 
-use board::{Found, Shape};
+use board::{Shape};
 use dump_lines::{AT_HOME, EQUALS_MEMORY};
 
 // What a check or a repair gives. The number is the call's own: 1 where the scratch is too short, or the flags of a repair are not as many as
@@ -69,15 +68,15 @@ pub fn has_room(s: Shape, keys: usize, links: usize) -> bool
 
 // Rules 4 and 5: each held line is at home, and equals memory if it is unchanged.
 fn check_alone(s: Shape, words: &[u64], records: &[u64], cache: &[u8], memory: &[u8]) -> Report
-    requires { Sized s records.now cache.now memory.now × (length words.now ≡ s.frames) × (doubled_page s words.now ≡ Nothing) }
+    requires { Sized s records.now cache.now memory.now × (length words.now ≡ s.frames) × (doubled_page s words.now ≡ None) }
     ensures { result ≡ from_rule4 s (home_of s words.now) (store_of records.now cache.now memory.now) }
 {
     match dump_lines::lowest_broken(AT_HOME, s, words, records, cache, memory) {
-        Found::At(i) => reported(AT_HOME, i),
-        Found::Nothing => {
+        Some(i) => reported(AT_HOME, i),
+        None => {
             match dump_lines::lowest_broken(EQUALS_MEMORY, s, words, records, cache, memory) {
-                Found::At(i) => reported(EQUALS_MEMORY, i),
-                Found::Nothing => reported(0, 0),
+                Some(i) => reported(EQUALS_MEMORY, i),
+                None => reported(0, 0),
             }
         }
     }
@@ -93,13 +92,13 @@ pub fn check_lines(
     keys: &mut [u64],
     links: &mut [u64],
 ) -> Report
-    requires { Sized s records.now cache.now memory.now × (length words.now ≡ s.frames) × (doubled_page s words.now ≡ Nothing) × (s.lines ≤ length keys.old) × (2 * s.lines ≤ length links.old) }
+    requires { Sized s records.now cache.now memory.now × (length words.now ≡ s.frames) × (doubled_page s words.now ≡ None) × (s.lines ≤ length keys.old) × (2 * s.lines ≤ length links.old) }
     ensures { result ≡ from_rule3 s (home_of s words.now) (store_of records.now cache.now memory.now) }
 {
     let lines = s.lines;
     match dump_lines::doubled_line(s, words, records, cache, memory, &mut keys[0..lines], links) {
-        Found::At(i) => reported(LINE_ONCE, i),
-        Found::Nothing => check_alone(s, words, records, cache, memory),
+        Some(i) => reported(LINE_ONCE, i),
+        None => check_alone(s, words, records, cache, memory),
     }
 }
 
@@ -118,8 +117,8 @@ fn check_pages(
 {
     let frames = s.frames;
     match dump_pages::doubled_page(s, words, &mut keys[0..frames], links) {
-        Found::At(f) => reported(PAGE_ONCE, f),
-        Found::Nothing => check_lines(s, words, records, cache, memory, keys, links),
+        Some(f) => reported(PAGE_ONCE, f),
+        None => check_lines(s, words, records, cache, memory, keys, links),
     }
 }
 

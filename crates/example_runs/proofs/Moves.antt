@@ -1,4 +1,5 @@
 -- The runs in which a page is handed over, call by call.
+use Rattle.std.specs.Prelude.{Some, None}
 use Prim.Native.Nat.{ℕ}
 use mathlib.Core.Path.{◌≡◌, refl, sym, ap, ◌∙◌}
 use mathlib.Core.Bool.{Bool, true, false}
@@ -9,12 +10,12 @@ use lib.ListN.{length, get_or, set}
 use lib.Count.{ones, ones_in}
 use lib.Dec.{eqb}
 use borrow.Author.Tests.{eqb-true}
+use Rattle.board.specs.Homes.{at_line}
 use Rattle.board.specs.Answers.{answer, mark_of}
 use Rattle.board.specs.Lists.{part, splice}
 use Rattle.board.specs.Searches.{first}
 use Rattle.board.specs.Shapes.{edition_holds, matrices_of, fits_shape}
 use Rattle.board.specs.declared.Answer.{Answer}
-use Rattle.board.specs.declared.Home.TheVariants.{Line as HomeLine, Nowhere}
 use Rattle.board.proofs.Bools.{clash}
 use Rattle.slots.specs.Slots.{slot_word}
 use Rattle.pages.specs.Pages.{frame_word, lowest_from, lowest_frame, mapped_to, direct_home, home_by, home_of}
@@ -431,7 +432,7 @@ later-needed = record {
 -- ---- boards that no calls reach
 
 -- a name that maps to nothing has no physical line
-nowhere-line : {p : ℕ} {w : Bool} → Nowhere ≡ HomeLine p w → ⊥
+nowhere-line : {p : ℕ} {w : Bool} → None ≡ Some (at_line p w) → ⊥
 nowhere-line e = let z : ◌≡◌ {A = ℕ} 0 1 = cc in omega arith
 
 -- a board that is not sound and has a valid record: one that fits stays sound, and one that doesn't fit stays as it is

@@ -1,12 +1,11 @@
 -- Small runs beside the demands: each meets the premises of its demand, and something happens in it.
 -- Two processes share a segment; the one has it for writing, the other read-only and a segment of its own beside it.
-use Rattle.std.specs.Prelude.{ℕ, ◌/◌, ◌<◌, ◌≡◌, Bool, true, false, List, [], ◌∷◌, replicate}
+use Rattle.std.specs.Prelude.{ℕ, ◌/◌, ◌<◌, ◌≡◌, Bool, true, false, List, [], ◌∷◌, replicate, Some}
 use Rattle.address.specs.Layout.{page_lines}
 use Rattle.address.specs.Addresses.{effective}
 use Rattle.board.specs.Answers.{answer}
 use Rattle.board.specs.declared.Shape.{Shape}
 use Rattle.board.specs.declared.Answer.{Answer}
-use Rattle.board.specs.declared.Found.TheVariants.{At}
 use Rattle.pages.specs.Pages.{mapped_to}
 use Rattle.line_bytes.specs.Bytes.{line_of, zeros}
 use Rattle.lines.specs.Records.{line_at, new_line, changed_line}
@@ -139,7 +138,7 @@ pub record Example3 : Type 0 where
       ≡ answer 0 0 0 ∷ answer 0 0 0 ∷ answer 0 0 0 ∷ answer 0 0 0 ∷ answer 0 0 0 ∷ answer 0 0 2 ∷ answer 0 0 2 ∷ answer 7 0 0 ∷ answer 0 50 1 ∷ []
   -- the premises of `same_bytes`, for the first line of the page of segment 2048
   pub page_held : ever_holds shape start run_a 0 (segment_of_page 0x200000) ≡ true
-  pub page_mapped : mapped_to shape (after shape start run_a).words 0x200000 ≡ At 1
+  pub page_mapped : mapped_to shape (after shape start run_a).words 0x200000 ≡ Some 1
   pub line_in_frame : 256 / page_lines ≡ 1
   -- the bytes at the end: the same, in memory after run A and in the cache after run B
   pub look_A : look shape (after shape start run_a) 256 ≡ line_with 50

@@ -1,11 +1,10 @@
 -- CR 9, beside demand 3: a page is handed over. The premise on moves is met, and something happens; and it is needed,
 -- for segments that are held only later too. Last, moves on boards that no calls reach.
 -- Process 1, the importer, fills a page of its own segment. The page is moved into a segment of process 0, the recorder.
-use Rattle.std.specs.Prelude.{ℕ, ◌<◌, ◌≡◌, true, false, List, [], ◌∷◌, ◌++◌, replicate}
+use Rattle.std.specs.Prelude.{ℕ, ◌<◌, ◌≡◌, true, false, List, [], ◌∷◌, ◌++◌, replicate, Some, None}
 use Rattle.address.specs.Layout.{page_lines}
 use Rattle.board.specs.Answers.{answer}
 use Rattle.board.specs.declared.Shape.{Shape}
-use Rattle.board.specs.declared.Found.TheVariants.{At, Nothing}
 use Rattle.pages.specs.Pages.{frame_word, mapped_to}
 use Rattle.line_bytes.specs.Bytes.{line_of}
 use Rattle.lines.specs.Records.{word_of, line_at, no_line, new_line, changed_line}
@@ -70,8 +69,8 @@ pub record HandOver : Type 0 where
   pub record_after : line_at (after shape start (stores50 (handing []))).store.records 0 ≡ no_line
   pub memory_after : line_of (after shape start (stores50 (handing []))).store.memory 512 ≡ line_with 50
   -- the new page has the frame, and the old one has none
-  pub new_mapped : mapped_to shape (after shape start (stores50 (handing []))).words 0x200000 ≡ At 2
-  pub old_unmapped : mapped_to shape (after shape start (stores50 (handing []))).words 0x200400 ≡ Nothing
+  pub new_mapped : mapped_to shape (after shape start (stores50 (handing []))).words 0x200000 ≡ Some 2
+  pub old_unmapped : mapped_to shape (after shape start (stores50 (handing []))).words 0x200400 ≡ None
 
 -- ---- demand 3
 

@@ -1,4 +1,5 @@
 -- Whether a value fits, the alignment of an access, and an access to a line, return by return.
+use Rattle.std.specs.Prelude.{Option, Some, None}
 use Prim.Native.Nat.{ℕ, zero, suc, ◌+◌, ◌*◌, ◌/◌, ◌%◌, ◌^◌, ◌<◌, ◌≤◌}
 use mathlib.Core.Path.{◌≡◌, ◌∙◌, refl, sym, ap}
 use mathlib.Core.Bool.{Bool, true, false, not, ◌&&◌, ◌||◌}
@@ -21,7 +22,7 @@ use Rattle.reach.specs.Reach.{way_of, unreached, may_write}
 use Rattle.stores.specs.Stores.{Store, store, must_write_back, Performed, performed, performed_at, inserted}
 use Rattle.stores.specs.declared.Access.{Access}
 use Rattle.reach.specs.declared.Way.{Way}
-use Rattle.reach.specs.declared.Way.TheVariants.{Held, InMemory, Missing}
+use Rattle.reach.specs.declared.Way.TheVariants.{Held, InMemory}
 use Rattle.lines.specs.Victims.{Uses, victim_of, used_in}
 use Rattle.reach.proofs.Reach.{way-held}
 use Rattle.machine.specs.Refusals.{row, by_table, is_width, too_large, aligned_to}
@@ -131,13 +132,13 @@ module _ (r c m : List ℕ) (p : Physical) (a : Access) where
   memory-loaded x v e f g = rw (g, e, f)
 
 -- an access to a line by the way to it
-unfoldable line_by : Shape → ℕ → ℕ → ℕ → Bool → Access → Store → Uses → Way → Touched
+unfoldable line_by : Shape → ℕ → ℕ → ℕ → Bool → Access → Store → Uses → Option Way → Touched
 line_by s to name offset user a b uses w =
     by_table (λ n. touched (stopped b n) uses) (row 8 (unreached w) ∷ row 9 (user && (a.store && not (may_write w))) ∷ [])
     (touched (accessed_by s to name offset a b w) (uses_by s to uses w))
 
 -- the record of a held line is one of the records
-module _ (s : Shape) (words r c m : List ℕ) (name i : ℕ) (write : Bool) (w : Way) (e : w ≡ way_of s words r name) (k : w ≡ Held i write)
+module _ (s : Shape) (words r c m : List ℕ) (name i : ℕ) (write : Bool) (w : Option Way) (e : w ≡ way_of s words r name) (k : w ≡ Some (Held i write))
     (z : Sized s r c m) where
   pub held-inside : i < s.lines
   held-inside = way-held s words r name i write w e k z.lined
@@ -157,19 +158,19 @@ pub refilled_by : (s : Shape) (r c m : List ℕ) (u : Uses) (name line : ℕ) (w
 unfolding refilled accessed_by uses_by
 refilled_by s r c m u name line write offset a x to back r₁ c₁ m₁ r₂ c₂ u₁ v e f d = rw (e, d, f.0, f.1, v)
 
-module _ (s : Shape) (words r c m : List ℕ) (u : Uses) (g : Global) (user : Bool) (a : Access) (w : Way) (e : w ≡ way_of s words r (name_of g)) where
+module _ (s : Shape) (words r c m : List ℕ) (u : Uses) (g : Global) (user : Bool) (a : Access) (w : Option Way) (e : w ≡ way_of s words r (name_of g)) where
   line_on : line_by s (victim_for s u r g) (name_of g) (g.0 % 16) user a (store r c m) u w ≡ line_access s words g user a (store r c m) u
   unfolding line_by line_access accessed
   line_on = rw e
 
-  by : Way → Touched
+  by : Option Way → Touched
   by = line_by s (victim_for s u r g) (name_of g) (g.0 % 16) user a (store r c m) u
 
-  pub line-missing : (x : Answer) → w ≡ Missing → x ≡ answer 8 0 0 → touched (reached x r c m) u ≡ line_access s words g user a (store r c m) u
+  pub line-missing : (x : Answer) → w ≡ None → x ≡ answer 8 0 0 → touched (reached x r c m) u ≡ line_access s words g user a (store r c m) u
   unfolding line_by by by_table unreached
   line-missing x k f = rw f (ap by (sym k) ∙ line_on)
 
-  module _ (i : ℕ) (write : Bool) (k : w ≡ Held i write) where
+  module _ (i : ℕ) (write : Bool) (k : w ≡ Some (Held i write)) where
     pub held_reads : (x : Answer) → (user && (a.store && not write)) ≡ true → x ≡ answer 9 0 0
         → touched (reached x r c m) u ≡ line_access s words g user a (store r c m) u
     unfolding line_by by by_table unreached may_write
@@ -181,7 +182,7 @@ module _ (s : Shape) (words r c m : List ℕ) (u : Uses) (g : Global) (user : Bo
     unfolding line_by by by_table unreached may_write accessed_by uses_by
     held-performed x r₁ c₁ u₁ t q d = rw (d, q) (simp t at (ap by (sym k)) ∙ line_on)
 
-  module _ (line : ℕ) (write : Bool) (k : w ≡ InMemory line write) where
+  module _ (line : ℕ) (write : Bool) (k : w ≡ Some (InMemory line write)) where
     pub memory-reads : (x : Answer) → (user && (a.store && not write)) ≡ true → x ≡ answer 9 0 0
         → touched (reached x r c m) u ≡ line_access s words g user a (store r c m) u
     unfolding line_by by by_table unreached may_write

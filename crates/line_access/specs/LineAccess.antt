@@ -1,5 +1,5 @@
 -- What the access code does once it has a line's address.
-use Rattle.std.specs.Prelude.{ℕ, Bool, not, ◌&&◌, List, [], ◌∷◌}
+use Rattle.std.specs.Prelude.{ℕ, Bool, not, ◌&&◌, List, [], ◌∷◌, Some}
 use Rattle.address.specs.declared.Global.{Global}
 use Rattle.board.specs.declared.Shape.{Shape}
 use Rattle.lines.specs.Victims.{Uses, victim_of}
@@ -13,8 +13,8 @@ use Rattle.machine.specs.Accesses.{Touched, touched, stopped, accessed_by, uses_
 -- an access to a line that isn't held, in the victim of its set
 unfoldable pub refilled : Shape → ℕ → ℕ → Bool → ℕ → Access → Store → Uses → Touched
 refilled s name line write offset a b uses =
-    touched (accessed_by s (victim_of s uses b.records name) name offset a b (InMemory line write))
-    (uses_by s (victim_of s uses b.records name) uses (InMemory line write))
+    touched (accessed_by s (victim_of s uses b.records name) name offset a b (Some (InMemory line write)))
+    (uses_by s (victim_of s uses b.records name) uses (Some (InMemory line write)))
 
 -- an access to a line with numbers 8 and 9, of which only users are asked 9
 unfoldable pub line_access : Shape → List ℕ → Global → Bool → Access → Store → Uses → Touched

@@ -1,4 +1,5 @@
 -- Look: the record that keeps a line, the part of a list, and the returns.
+use Rattle.std.specs.Prelude.{Option, Some, None}
 use Prim.Native.Nat.{ℕ, ◌+◌, ◌*◌, ◌-◌, ◌≤◌, ◌<◌}
 use mathlib.Core.Path.{◌≡◌, ◌∙◌, sym, ap}
 use mathlib.Core.Bool.{Bool, true, false}
@@ -11,8 +12,6 @@ use Rattle.board.specs.Lists.{part}
 use Rattle.board.specs.Shapes.{fits_shape}
 use Rattle.board.specs.declared.Shape.{Shape}
 use Rattle.board.specs.declared.Pending.{Pending}
-use Rattle.board.specs.declared.Found.{Found}
-use Rattle.board.specs.declared.Found.TheVariants.{At, Nothing}
 use Rattle.board.proofs.Searches.{first-at}
 use Rattle.line_bytes.specs.Bytes.{line_of}
 use Rattle.stores.specs.Stores.{store, current_by, current}
@@ -23,7 +22,7 @@ use Rattle.machine.specs.Refusals.{by_table}
 use Rattle.machine.specs.Looks.{look_number, look, Start, line_start, start_by, look_start}
 
 -- the record that keeps a line is one of those searched
-pub keeper-inside : (s : Shape) (records : List ℕ) (line i : ℕ) (found : Found) → found ≡ keeper_of s records line → found ≡ At i → i < s.lines
+pub keeper-inside : (s : Shape) (records : List ℕ) (line i : ℕ) (found : Option ℕ) → found ≡ keeper_of s records line → found ≡ Some i → i < s.lines
 unfolding keeper_of
 keeper-inside s records line i found e k = let z = (first-at (keeps_line s records line) 0 s.lines i (sym e ∙ k)).to in omega arith
 
@@ -32,16 +31,16 @@ part-line : (bytes : List ℕ) (i : ℕ) → take (16 * i + 16 - 16 * i) (drop (
 unfolding line_of part
 part-line bytes i = rw add-sub_cancel_left
 
-module _ (s : Shape) (r c m : List ℕ) (line : ℕ) (found : Found) (e : found ≡ keeper_of s r line) where
+module _ (s : Shape) (r c m : List ℕ) (line : ℕ) (found : Option ℕ) (e : found ≡ keeper_of s r line) where
   current-on : current_by c m line found ≡ current s (store r c m) line
   unfolding current
   current-on = rw e
 
-  pub current-kept : (i : ℕ) → found ≡ At i → take (16 * i + 16 - 16 * i) (drop (16 * i) c) ≡ current s (store r c m) line
+  pub current-kept : (i : ℕ) → found ≡ Some i → take (16 * i + 16 - 16 * i) (drop (16 * i) c) ≡ current s (store r c m) line
   unfolding current_by
   current-kept i k = part-line c i ∙ (ap (current_by c m line) (sym k) ∙ current-on)
 
-  pub current-memory : found ≡ Nothing → take (16 * line + 16 - 16 * line) (drop (16 * line) m) ≡ current s (store r c m) line
+  pub current-memory : found ≡ None → take (16 * line + 16 - 16 * line) (drop (16 * line) m) ≡ current s (store r c m) line
   unfolding current_by
   current-memory k = part-line m line ∙ (ap (current_by c m line) (sym k) ∙ current-on)
 
@@ -49,12 +48,12 @@ module _ (s : Shape) (r c m : List ℕ) (line : ℕ) (found : Found) (e : found 
 start-parts : (z x : Start) → z.0 ≡ x.0 → z.1 ≡ x.1 → z ≡ x
 start-parts z x p q i = (p i, q i)
 
-module _ (s : Shape) (r : List ℕ) (line : ℕ) (found : Found) (e : found ≡ keeper_of s r line) (x y z : Start) where
-  pub start-kept : (i : ℕ) → found ≡ At i → z.0 ≡ x.0 → z.1 ≡ x.1 + 16 * i → z ≡ start_by x y line (keeper_of s r line)
+module _ (s : Shape) (r : List ℕ) (line : ℕ) (found : Option ℕ) (e : found ≡ keeper_of s r line) (x y z : Start) where
+  pub start-kept : (i : ℕ) → found ≡ Some i → z.0 ≡ x.0 → z.1 ≡ x.1 + 16 * i → z ≡ start_by x y line (keeper_of s r line)
   unfolding start_by
   start-kept i k p q = start-parts z (line_start x i) p q ∙ ap (start_by x y line) (sym k ∙ e)
 
-  pub start-memory : found ≡ Nothing → z.0 ≡ y.0 → z.1 ≡ y.1 + 16 * line → z ≡ start_by x y line (keeper_of s r line)
+  pub start-memory : found ≡ None → z.0 ≡ y.0 → z.1 ≡ y.1 + 16 * line → z ≡ start_by x y line (keeper_of s r line)
   unfolding start_by
   start-memory k p q = start-parts z (line_start y line) p q ∙ ap (start_by x y line) (sym k ∙ e)
 

@@ -11,7 +11,7 @@ ghost use Rattle.machine.specs.Looks.{start_by};
 ghost use Rattle.machine.specs.Clauses.{FlushAll, LookNumber, Look};
 ghost use Rattle.machine.specs.Boards.{sets_board};
 
-use board::{Answer, Found, LINE_BYTES, PAGE_LINES, Shape, numbered};
+use board::{Answer, LINE_BYTES, PAGE_LINES, Shape, numbered};
 
 // Writes back every changed line and drops all.
 pub fn flush_all(
@@ -84,11 +84,11 @@ fn current_part<'a>(
     ensures { (result.now ≡ current s (store records.now cache.now memory.now) line) × (result.ref_ptr ≡ start_by cache.entry.ref_ptr memory.entry.ref_ptr line (keeper_of s records.now line)) }
 {
     match lines::keeper_of(s, records, line) {
-        Found::At(i) => {
+        Some(i) => {
             let a = LINE_BYTES * i;
             &cache[a..a + LINE_BYTES]
         }
-        Found::Nothing => {
+        None => {
             let a = LINE_BYTES * line;
             &memory[a..a + LINE_BYTES]
         }

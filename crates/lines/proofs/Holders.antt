@@ -1,4 +1,5 @@
 -- The place of a line, the record that holds it, the record that a new line takes, and uses of records: return by return.
+use Rattle.std.specs.Prelude.{Option, Some, None}
 use Prim.Native.Nat.{ℕ, zero, suc, ◌+◌, ◌*◌, ◌-◌, ◌/◌, ◌%◌, ◌≤◌, ◌<◌}
 use mathlib.Core.Path.{◌≡◌, ◌∙◌, refl, sym, ap}
 use mathlib.Core.Bool.{Bool, true, false, not, ◌&&◌, cond}
@@ -12,8 +13,6 @@ use borrow.Author.Tests.{ltb-true, eq-eqb, ne_eqb}
 use Rattle.board.specs.Searches.{first}
 use Rattle.board.specs.Shapes.{max_lines, set_lines, matrices_of}
 use Rattle.board.specs.declared.Shape.{Shape}
-use Rattle.board.specs.declared.Found.{Found}
-use Rattle.board.specs.declared.Found.TheVariants.{At, Nothing}
 use Rattle.board.proofs.Bools.{and_right}
 use Rattle.board.proofs.Searches.{first_one, first-here, first_more}
 use Rattle.sets.specs.Matrices.{used, fewest}
@@ -98,7 +97,7 @@ module _ (s : Shape) (records : List ℕ) (i : ℕ) (l : Line) (e : l ≡ line_a
     unfolding is_empty holds_at
     empty-by = rw (h, e)
 
-    pub empty-here : (end : ℕ) → t ≡ false → i < end → first (is_empty s records) i (end - i) ≡ At i
+    pub empty-here : (end : ℕ) → t ≡ false → i < end → first (is_empty s records) i (end - i) ≡ Some i
     empty-here end q k = first-here (is_empty s records) end i (not t) empty-by (rw q) k
 
     pub empty-more : (end : ℕ) → t ≡ true → i < end → first (is_empty s records) i (end - i) ≡ first (is_empty s records) (i + 1) (end - (i + 1))
@@ -140,7 +139,7 @@ module _ (s : Shape) (records : List ℕ) (name : ℕ) where
       go : (t : Bool) → has_name records name i ≡ t → r ≡ cond t i (first_or (has_name records name) (suc i) n)
           → (r ≡ first_or (has_name records name) (suc i) n
           → first (holds_name s records name) (suc i) n ≡ first (holds_name s records name) r (end - r))
-          → cond (holds_name s records name i) (At i) (first (holds_name s records name) (suc i) n) ≡ first (holds_name s records name) r (end - r)
+          → cond (holds_name s records name i) (Some i) (first (holds_name s records name) (suc i) n) ≡ first (holds_name s records name) r (end - r)
       go true q g later = let z : end - i ≡ suc n = omega arith in rw (g, z) refl
       go false q g later = rw (unnamed-not i q) (later g)
 
@@ -148,44 +147,44 @@ module _ (s : Shape) (records : List ℕ) (name place at : ℕ) (p : place ≡ p
   first-is : at ≡ first_at s (place_of s name)
   first-is = f ∙ ap (first_at s) p
 
-  pub holder-four : (found : Found) → s.ways ≡ set_lines → found ≡ first (holds_name s records name) at set_lines → found ≡ holder_of s records name
+  pub holder-four : (found : Option ℕ) → s.ways ≡ set_lines → found ≡ first (holds_name s records name) at set_lines → found ≡ holder_of s records name
   unfolding holder_of
   holder-four found e h =
       h ∙ (ap (first (holds_name s records name) at) (sym e) ∙ ap (λ (k : ℕ). first (holds_name s records name) k s.ways) first-is)
 
   module _ (l : Lined s) (n : s.ways ≡ set_lines → ⊥) (t : Bool) (h : t ≡ holds_name s records name at) where
-    holder-one : cond t (At at) Nothing ≡ holder_of s records name
+    holder-one : cond t (Some at) None ≡ holder_of s records name
     unfolding holder_of
     holder-one =
-        ap (λ (b : Bool). cond b (At at) Nothing) h
+        ap (λ (b : Bool). cond b (Some at) None) h
         ∙ (sym (first_one (holds_name s records name) at)
         ∙ (ap (first (holds_name s records name) at) (sym (ways-one s l n)) ∙ ap (λ (k : ℕ). first (holds_name s records name) k s.ways) first-is))
 
-    pub holder-at : t ≡ true → At at ≡ holder_of s records name
+    pub holder-at : t ≡ true → Some at ≡ holder_of s records name
     holder-at q = rw q at holder-one
 
-    pub holder-none : t ≡ false → Nothing ≡ holder_of s records name
+    pub holder-none : t ≡ false → None ≡ holder_of s records name
     holder-none q = rw q at holder-one
 
 -- ---- the record that a new line takes
 
 module _ (s : Shape) (uses : Uses) (records : List ℕ) (place at : ℕ) (f : at ≡ first_at s place) where
-  victim-by : (found : Found) → found ≡ first (is_empty s records) at s.ways → victim_by s uses place found ≡ victim_at s uses records place
+  victim-by : (found : Option ℕ) → found ≡ first (is_empty s records) at s.ways → victim_by s uses place found ≡ victim_at s uses records place
   unfolding victim_at
   victim-by found h = ap (victim_by s uses place) (h ∙ ap (λ (k : ℕ). first (is_empty s records) k s.ways) f)
 
-  module _ (found : Found) (e : s.ways ≡ set_lines) (h : found ≡ first (is_empty s records) at set_lines) where
+  module _ (found : Option ℕ) (e : s.ways ≡ set_lines) (h : found ≡ first (is_empty s records) at set_lines) where
     found-four : found ≡ first (is_empty s records) at s.ways
     found-four = h ∙ ap (first (is_empty s records) at) (sym e)
 
-    pub victim_empty : (i : ℕ) → found ≡ At i → i ≡ victim_at s uses records place
+    pub victim_empty : (i : ℕ) → found ≡ Some i → i ≡ victim_at s uses records place
     unfolding victim_by
     victim_empty i k = ap (victim_by s uses place) (sym k) ∙ victim-by found found-four
 
-    pub victim_full : (r : ℕ) → found ≡ Nothing → r ≡ fewest (matrix_of uses place) → at + r ≡ victim_at s uses records place
+    pub victim_full : (r : ℕ) → found ≡ None → r ≡ fewest (matrix_of uses place) → at + r ≡ victim_at s uses records place
     unfolding victim_by
     victim_full r k g =
-        let z : at + r ≡ victim_by s uses place Nothing = rw (f, g, eq-eqb _ _ e) in
+        let z : at + r ≡ victim_by s uses place None = rw (f, g, eq-eqb _ _ e) in
         z ∙ (ap (victim_by s uses place) (sym k) ∙ victim-by found found-four)
 
   module _ (name : ℕ) (p : place ≡ place_of s name) where
@@ -196,7 +195,7 @@ module _ (s : Shape) (uses : Uses) (records : List ℕ) (place at : ℕ) (f : at
     unfolding victim_by
     victim-single l n = victim-four at (go (is_empty s records at) refl ∙ victim-by (first (is_empty s records) at s.ways) refl)
       where
-        found-one : first (is_empty s records) at s.ways ≡ cond (is_empty s records at) (At at) Nothing
+        found-one : first (is_empty s records) at s.ways ≡ cond (is_empty s records at) (Some at) None
         found-one = ap (first (is_empty s records) at) (ways-one s l n) ∙ first_one (is_empty s records) at
 
         go : (t : Bool) → is_empty s records at ≡ t → at ≡ victim_by s uses place (first (is_empty s records) at s.ways)
@@ -210,38 +209,38 @@ victim-low s uses records name r l e = rw e (victim-inside s uses records name (
 -- ---- where a line is to be inserted
 
 module _ (s : Shape) (uses : Uses) (records : List ℕ) (name place at : ℕ) (p : place ≡ place_of s name) (f : at ≡ first_at s place) where
-  room-is : (found : Found) → found ≡ holder_of s records name → room_by (victim_of s uses records name) found ≡ room_for s uses records name
+  room-is : (found : Option ℕ) → found ≡ holder_of s records name → room_by (victim_of s uses records name) found ≡ room_for s uses records name
   room-is found e = ap (room_by (victim_of s uses records name)) e
 
-  module _ (found : Found) (e : s.ways ≡ set_lines) (h : found ≡ first (holds_name s records name) at set_lines) where
+  module _ (found : Option ℕ) (e : s.ways ≡ set_lines) (h : found ≡ first (holds_name s records name) at set_lines) where
     room_by_lem : room_by (victim_of s uses records name) found ≡ room_for s uses records name
     room_by_lem = room-is found (holder-four s records name place at p f found e h)
 
-    pub room-held : (i : ℕ) → found ≡ At i → Nothing ≡ room_for s uses records name
+    pub room-held : (i : ℕ) → found ≡ Some i → None ≡ room_for s uses records name
     unfolding room_by
     room-held i k = ap (room_by (victim_of s uses records name)) (sym k) ∙ room_by_lem
 
-    pub room-new : (r : ℕ) → found ≡ Nothing → r ≡ victim_at s uses records place → At r ≡ room_for s uses records name
+    pub room-new : (r : ℕ) → found ≡ None → r ≡ victim_at s uses records place → Some r ≡ room_for s uses records name
     unfolding room_by
-    room-new r k v = ap At (victim-four s uses records place at f name p r v) ∙ (ap (room_by (victim_of s uses records name)) (sym k) ∙ room_by_lem)
+    room-new r k v = ap Some (victim-four s uses records place at f name p r v) ∙ (ap (room_by (victim_of s uses records name)) (sym k) ∙ room_by_lem)
 
   module _ (l : Lined s) (n : s.ways ≡ set_lines → ⊥) (t : Bool) (h : t ≡ holds_name s records name at) where
-    pub room-held-one : t ≡ true → Nothing ≡ room_for s uses records name
+    pub room-held-one : t ≡ true → None ≡ room_for s uses records name
     unfolding room_by
-    room-held-one q = room-is (At at) (holder-at s records name place at p f l n t h q)
+    room-held-one q = room-is (Some at) (holder-at s records name place at p f l n t h q)
 
-    pub room-new-one : t ≡ false → At at ≡ room_for s uses records name
+    pub room-new-one : t ≡ false → Some at ≡ room_for s uses records name
     unfolding room_by
-    room-new-one q = ap At (victim-single s uses records place at f name p l n) ∙ room-is Nothing (holder-none s records name place at p f l n t h q)
+    room-new-one q = ap Some (victim-single s uses records place at f name p l n) ∙ room-is None (holder-none s records name place at p f l n t h q)
 
 -- what is to be filled is a record
 module _ (s : Shape) (uses : Uses) (records : List ℕ) (name to : ℕ) where
-  room-victim : (found : Found) → room_by (victim_of s uses records name) found ≡ At to → to ≡ victim_of s uses records name
+  room-victim : (found : Option ℕ) → room_by (victim_of s uses records name) found ≡ Some to → to ≡ victim_of s uses records name
   unfolding room_by
-  room-victim (At i) e = absurd (let z : ◌≡◌ {A = ℕ} 0 1 = cc in omega arith)
-  room-victim Nothing e = cc
+  room-victim (Some i) e = absurd (let z : ◌≡◌ {A = ℕ} 0 1 = cc in omega arith)
+  room-victim None e = cc
 
-  pub room-low : (room : Found) → Lined s → room ≡ room_for s uses records name → room ≡ At to → to < s.lines
+  pub room-low : (room : Option ℕ) → Lined s → room ≡ room_for s uses records name → room ≡ Some to → to < s.lines
   room-low room l e k = victim-low s uses records name to l (room-victim (holder_of s records name) (sym e ∙ k))
 
 -- ---- uses

@@ -1,4 +1,5 @@
 -- Sets and their records: how many sets there are, where their records stand, and that a victim is one of its set.
+use Rattle.std.specs.Prelude.{Option, Some, None}
 use Prim.Native.Nat.{ℕ, suc, ◌+◌, ◌*◌, ◌-◌, ◌/◌, ◌%◌, ◌^◌, ◌≤◌, ◌<◌}
 use mathlib.Core.Path.{◌≡◌, refl, sym, ◌∙◌}
 use mathlib.Core.Logic.{⊎_elim}
@@ -12,8 +13,6 @@ use borrow.Author.Tests.{eqb-true}
 use Rattle.board.specs.Searches.{first}
 use Rattle.board.specs.Shapes.{set_lines}
 use Rattle.board.specs.declared.Shape.{Shape}
-use Rattle.board.specs.declared.Found.{Found}
-use Rattle.board.specs.declared.Found.TheVariants.{At, Nothing}
 use Rattle.board.proofs.Searches.{first-at}
 use Rattle.board.proofs.Shapes.{Edition, one_line, four_lines, edition-is}
 use Rattle.sets.specs.Matrices.{fewest}
@@ -129,7 +128,7 @@ module _ (s : Shape) (place i : ℕ) where
     set-inside h = rw r.is (in_lines s.ways place r.offset r.low s.lines h)
 
 -- what a search in a set finds is one of the set
-pub found_in : (s : Shape) (test : ℕ → Bool) (place i : ℕ) → first test (first_at s place) s.ways ≡ At i → InSet s place i
+pub found_in : (s : Shape) (test : ℕ → Bool) (place i : ℕ) → first test (first_at s place) s.ways ≡ Some i → InSet s place i
 found_in s test place i h = let f = first-at test (first_at s place) s.ways i h in between s place i f.from f.to
 
 -- the victim is one of its set
@@ -143,10 +142,10 @@ module _ (s : Shape) (uses : Uses) (records : List ℕ) (place : ℕ) (pos : 0 <
           record { offset = fewest (matrix_of uses place); low = omega (arith, w, (fewest-is (matrix_of uses place)).low); is = refl }
       go false e = record { offset = 0; low = pos; is = refl }
 
-  victim-by : (f : Found) → empty_at s records place ≡ f → InSet s place (victim_by s uses place f)
+  victim-by : (f : Option ℕ) → empty_at s records place ≡ f → InSet s place (victim_by s uses place f)
   unfolding victim_by
-  victim-by (At i) h = found_in s (is_empty s records) place i h
-  victim-by Nothing h = given-in
+  victim-by (Some i) h = found_in s (is_empty s records) place i h
+  victim-by None h = given-in
 
   pub victim-in : InSet s place (victim_at s uses records place)
   unfolding victim_at
@@ -161,7 +160,7 @@ module _ (s : Shape) (uses : Uses) (records : List ℕ) (name : ℕ) (w : 0 < s.
   victim-inside p = set-inside s (place_of s name) (victim_at s uses records (place_of s name)) (victim-in s uses records (place_of s name) w) (mod-lt name p)
 
 -- what holds a name is one of its set, and a record
-module _ (s : Shape) (records : List ℕ) (name i : ℕ) (found : Found) (e : found ≡ holder_of s records name) (k : found ≡ At i) where
+module _ (s : Shape) (records : List ℕ) (name i : ℕ) (found : Option ℕ) (e : found ≡ holder_of s records name) (k : found ≡ Some i) where
   pub holder_in : InSet s (place_of s name) i
   unfolding holder_of
   holder_in = found_in s (holds_name s records name) (place_of s name) i (sym e ∙ k)

@@ -1,10 +1,9 @@
 -- 01, "The board": the place of a line, which record holds it, and which holds a physical line.
 -- A place has as many records as there are lines in a set: one in 01's edition, four with sets of four (CR 4).
-use Rattle.std.specs.Prelude.{ℕ, ◌*◌, ◌/◌, ◌%◌, Bool, ◌&&◌, List, eqb, ltb}
+use Rattle.std.specs.Prelude.{ℕ, ◌*◌, ◌/◌, ◌%◌, Bool, ◌&&◌, List, eqb, ltb, Option}
 use Rattle.address.specs.Layout.{page_lines}
 use Rattle.board.specs.Searches.{first}
 use Rattle.board.specs.declared.Shape.{Shape}
-use Rattle.board.specs.declared.Found.{Found}
 use Rattle.lines.specs.Records.{line_at}
 use Rattle.lines.specs.declared.Line.{Line}
 
@@ -35,7 +34,7 @@ unfoldable pub holds_name : Shape → List ℕ → ℕ → ℕ → Bool
 holds_name s records name i = eqb (line_at records i).name name && holds_at s records i
 
 -- the record that holds the line of this name: the lowest of its set that does
-unfoldable pub holder_of : Shape → List ℕ → ℕ → Found
+unfoldable pub holder_of : Shape → List ℕ → ℕ → Option ℕ
 holder_of s records name = first (holds_name s records name) (first_at s (place_of s name)) s.ways
 
 -- record i holds this physical line
@@ -43,5 +42,5 @@ unfoldable pub keeps_line : Shape → List ℕ → ℕ → ℕ → Bool
 keeps_line s records line i = holds_at s records i && eqb (line_at records i).physical line
 
 -- the lowest record that holds this physical line
-unfoldable pub keeper_of : Shape → List ℕ → ℕ → Found
+unfoldable pub keeper_of : Shape → List ℕ → ℕ → Option ℕ
 keeper_of s records line = first (keeps_line s records line) 0 s.lines

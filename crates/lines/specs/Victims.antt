@@ -1,11 +1,9 @@
 -- CR 4: which record of its set a new line takes, and what a use of a record leaves in the matrices. With one line in a set it is the record at the place,
 -- and there are no matrices.
-use Rattle.std.specs.Prelude.{ℕ, ◌+◌, ◌/◌, ◌%◌, Bool, not, cond, List, [], get_or, set, eqb}
+use Rattle.std.specs.Prelude.{ℕ, ◌+◌, ◌/◌, ◌%◌, Bool, not, cond, List, [], get_or, set, eqb, Option, Some, None}
 use Rattle.board.specs.Searches.{first}
 use Rattle.board.specs.Shapes.{set_lines}
 use Rattle.board.specs.declared.Shape.{Shape}
-use Rattle.board.specs.declared.Found.{Found}
-use Rattle.board.specs.declared.Found.TheVariants.{At, Nothing}
 use Rattle.sets.specs.Matrices.{Matrix, used, fewest}
 use Rattle.lines.specs.Holds.{place_of, first_at, holds_at, holder_of}
 
@@ -21,16 +19,16 @@ unfoldable pub is_empty : Shape → List ℕ → ℕ → Bool
 is_empty s records i = not (holds_at s records i)
 
 -- the lowest record of a set that holds nothing
-abbrev pub empty_at : Shape → List ℕ → ℕ → Found
+abbrev pub empty_at : Shape → List ℕ → ℕ → Option ℕ
 empty_at s records place = first (is_empty s records) (first_at s place) s.ways
 
 -- the record that a full set gives up: the lowest whose row has the fewest ones
 abbrev pub given_up : Shape → Uses → ℕ → ℕ
 given_up s uses place = first_at s place + cond (eqb s.ways set_lines) (fewest (matrix_of uses place)) 0
 
-unfoldable pub victim_by : Shape → Uses → ℕ → Found → ℕ
-victim_by s uses place (At i) = i
-victim_by s uses place Nothing = given_up s uses place
+unfoldable pub victim_by : Shape → Uses → ℕ → Option ℕ → ℕ
+victim_by s uses place (Some i) = i
+victim_by s uses place None = given_up s uses place
 
 -- the victim: the lowest record of the set that holds nothing, else the one that the full set gives up
 unfoldable pub victim_at : Shape → Uses → List ℕ → ℕ → ℕ
@@ -45,17 +43,17 @@ used_in s uses i =
     cond (eqb s.ways set_lines) (set uses (i / set_lines) (used (matrix_of uses (i / set_lines)) (i % set_lines))) uses
 
 -- where an access to the line of this name goes: the record that holds it, else the victim
-unfoldable pub record_by : ℕ → Found → ℕ
-record_by victim (At i) = i
-record_by victim Nothing = victim
+unfoldable pub record_by : ℕ → Option ℕ → ℕ
+record_by victim (Some i) = i
+record_by victim None = victim
 
 abbrev pub record_for : Shape → Uses → List ℕ → ℕ → ℕ
 record_for s uses records name = record_by (victim_of s uses records name) (holder_of s records name)
 
 -- where a line of this name is to be inserted: nowhere if it is held
-unfoldable pub room_by : ℕ → Found → Found
-room_by victim (At i) = Nothing
-room_by victim Nothing = At victim
+unfoldable pub room_by : ℕ → Option ℕ → Option ℕ
+room_by victim (Some i) = None
+room_by victim None = Some victim
 
-abbrev pub room_for : Shape → Uses → List ℕ → ℕ → Found
+abbrev pub room_for : Shape → Uses → List ℕ → ℕ → Option ℕ
 room_for s uses records name = room_by (victim_of s uses records name) (holder_of s records name)

@@ -11,7 +11,7 @@ ghost use Rattle.lines.specs.Holds.{sets_of, place_of, set_at, first_at, holds_l
 ghost use Rattle.lines.specs.Victims.{is_empty, victim_at, victim_of, room_for, used_in};
 ghost use Rattle.lines.specs.Premises.{Lined, has_name, first_or};
 
-use board::{Found, PAGE_LINES, RECORD_WORDS, SET_LINES, Shape};
+use board::{PAGE_LINES, RECORD_WORDS, SET_LINES, Shape};
 
 // A line's record.
 #[derive(Clone, Copy)]
@@ -151,7 +151,7 @@ fn named_in(records: &[u64], first: usize, name: u64) -> usize
 }
 
 // The lowest of a set's four records that holds the line of this name.
-fn holder_in(s: Shape, records: &[u64], first: usize, name: u64) -> Found
+fn holder_in(s: Shape, records: &[u64], first: usize, name: u64) -> Option<usize>
     requires { Lined s × (first + set_lines ≤ s.lines) × (length records.now ≡ 2 * s.lines) }
     ensures { result ≡ lowest (holds_name s records.now name) first set_lines }
 {
@@ -159,15 +159,15 @@ fn holder_in(s: Shape, records: &[u64], first: usize, name: u64) -> Found
     let mut i = named_in(records, first, name);
     while i < end {
         if holds_name(s, records, i, name) {
-            return Found::At(i);
+            return Some(i);
         }
         i += 1;
     }
-    Found::Nothing
+    None
 }
 
 // The record that holds the line of this name.
-pub fn holder_of(s: Shape, records: &[u64], name: u64) -> Found
+pub fn holder_of(s: Shape, records: &[u64], name: u64) -> Option<usize>
     requires { Lined s × (length records.now ≡ 2 * s.lines) }
     ensures { result ≡ holder_of s records.now name }
 {
@@ -177,13 +177,13 @@ pub fn holder_of(s: Shape, records: &[u64], name: u64) -> Found
         return holder_in(s, records, first, name);
     }
     if holds_name(s, records, first, name) {
-        return Found::At(first);
+        return Some(first);
     }
-    Found::Nothing
+    None
 }
 
 // The lowest of a set's four records that holds nothing.
-fn empty_in(s: Shape, records: &[u64], first: usize) -> Found
+fn empty_in(s: Shape, records: &[u64], first: usize) -> Option<usize>
     requires { Lined s × (first + set_lines ≤ s.lines) × (length records.now ≡ 2 * s.lines) }
     ensures { result ≡ lowest (is_empty s records.now) first set_lines }
 {
@@ -194,10 +194,10 @@ fn empty_in(s: Shape, records: &[u64], first: usize) -> Found
         if holds(s, i, l) {
             i += 1;
         } else {
-            return Found::At(i);
+            return Some(i);
         }
     }
-    Found::Nothing
+    None
 }
 
 // The record of a set of four that a new line takes: the lowest that holds nothing, else the lowest whose row has the fewest
@@ -207,8 +207,8 @@ fn victim_in(s: Shape, records: &[u64], uses: &[[[u8; 4]; 4]], place: usize, fir
     ensures { result ≡ victim_at s uses.now records.now place }
 {
     match empty_in(s, records, first) {
-        Found::At(i) => i,
-        Found::Nothing => {
+        Some(i) => i,
+        None => {
             let m = uses[place];
             first + sets::fewest_of(m)
         }
@@ -230,7 +230,7 @@ pub fn victim_of(s: Shape, records: &[u64], uses: &[[[u8; 4]; 4]], name: u64) ->
 
 // The record that a line of this name is to be inserted in: none if it is held. It looks for the set once, and keeps the two
 // searches in a set of four out of the way of the accesses.
-pub fn room_for(s: Shape, records: &[u64], uses: &[[[u8; 4]; 4]], name: u64) -> Found
+pub fn room_for(s: Shape, records: &[u64], uses: &[[[u8; 4]; 4]], name: u64) -> Option<usize>
     requires { Lined s × (length records.now ≡ 2 * s.lines) × (length uses.now ≡ matrices_of s) }
     ensures { result ≡ room_for s uses.now records.now name }
 {
@@ -238,17 +238,17 @@ pub fn room_for(s: Shape, records: &[u64], uses: &[[[u8; 4]; 4]], name: u64) -> 
     let first = first_at(s, place);
     if s.ways == SET_LINES {
         return match holder_in(s, records, first, name) {
-            Found::At(_) => Found::Nothing,
-            Found::Nothing => {
+            Some(_) => None,
+            None => {
                 let to = victim_in(s, records, uses, place, first);
-                Found::At(to)
+                Some(to)
             }
         };
     }
     if holds_name(s, records, first, name) {
-        return Found::Nothing;
+        return None;
     }
-    Found::At(first)
+    Some(first)
 }
 
 // Notes a use of record `i`.
@@ -310,7 +310,7 @@ fn keeps(s: Shape, records: &[u64], i: usize, line: usize) -> bool
 }
 
 // The lowest record that holds this physical line.
-pub fn keeper_of(s: Shape, records: &[u64], line: usize) -> Found
+pub fn keeper_of(s: Shape, records: &[u64], line: usize) -> Option<usize>
     requires { Lined s × (length records.now ≡ 2 * s.lines) }
     ensures { result ≡ keeper_of s records.now line }
 {
@@ -318,9 +318,9 @@ pub fn keeper_of(s: Shape, records: &[u64], line: usize) -> Found
     let mut i: usize = 0;
     while i < lines {
         if keeps(s, records, i, line) {
-            return Found::At(i);
+            return Some(i);
         }
         i += 1;
     }
-    Found::Nothing
+    None
 }

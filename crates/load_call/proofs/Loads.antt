@@ -1,4 +1,5 @@
 -- Load-and-map: its number or its permission, the line, and its returns.
+use Rattle.std.specs.Prelude.{Option, Some, None}
 use Prim.Native.Nat.{ℕ, ◌+◌, ◌*◌, ◌/◌, ◌%◌, ◌≤◌, ◌<◌}
 use mathlib.Core.Path.{◌≡◌, ◌∙◌, refl, sym, ap}
 use mathlib.Core.Bool.{Bool, true, false, not, cond}
@@ -13,8 +14,6 @@ use Rattle.pages.specs.Pages.{mapped_to, word_writes}
 use Rattle.board.specs.declared.Shape.{Shape}
 use Rattle.board.specs.declared.Answer.{Answer}
 use Rattle.board.specs.declared.Pending.{Pending}
-use Rattle.board.specs.declared.Found.{Found}
-use Rattle.board.specs.declared.Found.TheVariants.{At, Nothing}
 use Rattle.stores.specs.Stores.{store, inserted}
 use Rattle.lines.specs.Holds.{holder_of}
 use Rattle.lines.specs.Victims.{Uses, victim_of, room_by, room_for, used_in}
@@ -29,12 +28,12 @@ use Rattle.machine.proofs.Fits.{fit-table}
 
 -- ---- numbers 8 and 13, or the permission
 
-module _ (s : Shape) (words : List ℕ) (name line : ℕ) (found : Found) (e : found ≡ mapped_to s words (name / 256)) where
-  pub home-none : found ≡ Nothing → Refuse 8 ≡ load_frame s words name line
+module _ (s : Shape) (words : List ℕ) (name line : ℕ) (found : Option ℕ) (e : found ≡ mapped_to s words (name / 256)) where
+  pub home-none : found ≡ None → Refuse 8 ≡ load_frame s words name line
   unfolding load_frame by_table is_mapped
   home-none k = rw (← e, k)
 
-  module _ (f : ℕ) (k : found ≡ At f) where
+  module _ (f : ℕ) (k : found ≡ Some f) where
     pub home-other : (line ≡ f * 256 + name % 256 → ⊥) → Refuse 13 ≡ load_frame s words name line
     unfolding load_frame by_table is_mapped found_frame
     home-other n = rw (← e, k, ne_eqb _ _ n)
@@ -74,25 +73,25 @@ module _ (s : Shape) (r c m : List ℕ) (u : Uses) (name line : ℕ) (write : Bo
   abbrev v : ℕ
   v = victim_of s u r name
 
-  by : Found → Loaded
+  by : Option ℕ → Loaded
   by f = loaded_with (loaded_by s v name line write (store r c m) f) (loaded_uses s v u f)
 
-  held_by : (f : Found) → room_by v f ≡ Nothing → loaded_with (store r c m) u ≡ by f
+  held_by : (f : Option ℕ) → room_by v f ≡ None → loaded_with (store r c m) u ≡ by f
   unfolding room_by loaded_by loaded_uses by
-  held_by (At i) e = refl
-  held_by Nothing e = absurd (let z : ◌≡◌ {A = ℕ} 0 1 = cc in omega arith)
+  held_by (Some i) e = refl
+  held_by None e = absurd (let z : ◌≡◌ {A = ℕ} 0 1 = cc in omega arith)
 
-  new_by : (f : Found) (to : ℕ) → room_by v f ≡ At to → loaded_with (inserted s to name line write (store r c m)) (used_in s u to) ≡ by f
+  new_by : (f : Option ℕ) (to : ℕ) → room_by v f ≡ Some to → loaded_with (inserted s to name line write (store r c m)) (used_in s u to) ≡ by f
   unfolding room_by loaded_by loaded_uses by
-  new_by (At i) to e = absurd (let z : ◌≡◌ {A = ℕ} 0 1 = cc in omega arith)
-  new_by Nothing to e = let z : to ≡ v = cc in rw z
+  new_by (Some i) to e = absurd (let z : ◌≡◌ {A = ℕ} 0 1 = cc in omega arith)
+  new_by None to e = let z : to ≡ v = cc in rw z
 
-  module _ (room : Found) (e : room ≡ room_for s u r name) where
-    pub loaded-held : room ≡ Nothing → loaded_with (store r c m) u ≡ loaded s name line write (store r c m) u
+  module _ (room : Option ℕ) (e : room ≡ room_for s u r name) where
+    pub loaded-held : room ≡ None → loaded_with (store r c m) u ≡ loaded s name line write (store r c m) u
     unfolding loaded by
     loaded-held k = held_by (holder_of s r name) (sym e ∙ k)
 
-    pub loaded-new : (to : ℕ) (r₁ c₁ m₁ : List ℕ) (u₁ : Uses) → room ≡ At to → u₁ ≡ used_in s u to
+    pub loaded-new : (to : ℕ) (r₁ c₁ m₁ : List ℕ) (u₁ : Uses) → room ≡ Some to → u₁ ≡ used_in s u to
         → store r₁ c₁ m₁ ≡ inserted s to name line write (store r c m) → loaded_with (store r₁ c₁ m₁) u₁ ≡ loaded s name line write (store r c m) u
     unfolding loaded by
     loaded-new to r₁ c₁ m₁ u₁ k q g = rw (g, q) (new_by (holder_of s r name) to (sym e ∙ k))

@@ -12,7 +12,7 @@ ghost use Rattle.machine.specs.Boards.{board, sets_board};
 ghost use Rattle.stores.specs.Stores.{store};
 
 use address::PAGE_NAMES;
-use board::{Found, PAGE_LINES, Pending, Shape};
+use board::{PAGE_LINES, Pending, Shape};
 use tag_calls::Tagged;
 
 // What load-and-map goes on with: the page's permission, if no number refuses it.
@@ -28,8 +28,8 @@ fn load_frame(s: Shape, words: &[u64], name: u64, line: usize) -> Load
     ensures { result ≡ load_frame s words.now name line }
 {
     match pages::mapped_to(s, words, name / PAGE_NAMES) {
-        Found::Nothing => Load::Refuse(8),
-        Found::At(f) => {
+        None => Load::Refuse(8),
+        Some(f) => {
             if line != f * PAGE_LINES + (name % PAGE_NAMES) as usize {
                 return Load::Refuse(13);
             }
@@ -68,8 +68,8 @@ fn load_line(
     ensures { loaded_with (store records.new cache.new memory.new) uses.new ≡ loaded s name line write (store records.old cache.old memory.old) uses.old }
 {
     match lines::room_for(s, records, uses, name) {
-        Found::Nothing => {}
-        Found::At(to) => {
+        None => {}
+        Some(to) => {
             lines::note_use(s, uses, to);
             stores::insert(s, records, cache, memory, to, name, line, write);
         }

@@ -1,4 +1,5 @@
 -- Look for C and Rust: what an accepted look says, the place of a line, and the returns.
+use Rattle.std.specs.Prelude.{Option, Some, None}
 use Prim.Native.Nat.{ℕ, ◌+◌, ◌*◌, ◌<◌, ◌≤◌}
 use mathlib.Core.Path.{◌≡◌, refl, ◌∙◌, sym, ap}
 use mathlib.Core.Bool.{Bool, true, false, not, cond}
@@ -11,8 +12,6 @@ use borrow.Author.Tests.{ltb-true, not-false, lt-ltb, le-ltb}
 use Rattle.board.specs.Shapes.{max_lines, fits_shape}
 use Rattle.board.specs.declared.Shape.{Shape}
 use Rattle.board.specs.declared.Pending.{Pending}
-use Rattle.board.specs.declared.Found.{Found}
-use Rattle.board.specs.declared.Found.TheVariants.{At, Nothing}
 use Rattle.board.proofs.Lists.{length_part}
 use Rattle.line_bytes.specs.Bytes.{line_of}
 use Rattle.stores.specs.Premises.{Sized}
@@ -28,15 +27,15 @@ use Rattle.line_calls.proofs.Looks.{keeper-inside, look-inside}
 use Rattle.look_place.specs.Lends.{in_memory, nowhere, place_by, look_place, bytes_at, PlaceIsLook}
 
 -- the return of place_of_line
-module _ (s : Shape) (r c m : List ℕ) (line : ℕ) (found : Found) (e : found ≡ keeper_of s r line) where
-  pub kept-below : (i : ℕ) → found ≡ At i → Sized s r c m → i < max_lines
+module _ (s : Shape) (r c m : List ℕ) (line : ℕ) (found : Option ℕ) (e : found ≡ keeper_of s r line) where
+  pub kept-below : (i : ℕ) → found ≡ Some i → Sized s r c m → i < max_lines
   kept-below i k z = let y = keeper-inside s r line i found e k in omega arith
 
-  pub place_kept : (i : ℕ) → found ≡ At i → 16 * i ≡ place_by line (keeper_of s r line)
+  pub place_kept : (i : ℕ) → found ≡ Some i → 16 * i ≡ place_by line (keeper_of s r line)
   unfolding place_by
   place_kept i k = ap (place_by line) (sym k ∙ e)
 
-  pub place-memory : found ≡ Nothing → in_memory + 16 * line ≡ place_by line (keeper_of s r line)
+  pub place-memory : found ≡ None → in_memory + 16 * line ≡ place_by line (keeper_of s r line)
   unfolding place_by
   place-memory k = ap (place_by line) (sym k ∙ e)
 
@@ -62,13 +61,13 @@ module _ (s : Shape) (slots w r c m : List ℕ) (u : Uses) (tag : Pending) (line
         look-inside s slots w r c m u tag line (fits_shape s (length slots) (length w) (length r) (length c) (length m) (length u)) refl (accepted (sym f ∙ h)).0
         (current s (store r c m) line) look-line refl
 
-    length-by : (found : Found) → found ≡ keeper_of s r line → length (current_by c m line found) ≡ 16
+    length-by : (found : Option ℕ) → found ≡ keeper_of s r line → length (current_by c m line found) ≡ 16
     unfolding current_by line_of
-    length-by (At i) e =
-        let y = keeper-inside s r line i (At i) e refl in
+    length-by (Some i) e =
+        let y = keeper-inside s r line i (Some i) e refl in
         let z = look-sized in
         length_part c (16 * i) 16 (omega arith)
-    length-by Nothing e =
+    length-by None e =
         let y = look-line in
         let z = look-sized in
         length_part m (16 * line) 16 (omega arith)
@@ -81,13 +80,13 @@ module _ (s : Shape) (slots w r c m : List ℕ) (u : Uses) (tag : Pending) (line
     unfolding look_place by_table
     look-at-inside place e = rw ((accepted (sym f ∙ h)).0, lt-ltb line (256 * s.frames) look-line) e
 
-    place-bytes : (found : Found) → found ≡ keeper_of s r line → bytes_at (sets_board slots w r c m u tag) (place_by line found) ≡ current_by c m line found
+    place-bytes : (found : Option ℕ) → found ≡ keeper_of s r line → bytes_at (sets_board slots w r c m u tag) (place_by line found) ≡ current_by c m line found
     unfolding bytes_at place_by current_by line_of
-    place-bytes (At i) e =
-        let y = kept-below s r c m line (At i) e i refl look-sized in
+    place-bytes (Some i) e =
+        let y = kept-below s r c m line (Some i) e i refl look-sized in
         let z : 16 * i < in_memory = omega arith in
         rw (lt-ltb _ _ z)
-    place-bytes Nothing e =
+    place-bytes None e =
         let z : in_memory ≤ in_memory + 16 * line = omega arith in
         rw (le-ltb _ _ z, add-sub_cancel_left)
 

@@ -1,10 +1,8 @@
 -- Look for C and Rust: where the line's current bytes stand in the caller's own buffers.
-use Rattle.std.specs.Prelude.{ℕ, ◌+◌, ◌*◌, ◌-◌, ◌^◌, ◌≡◌, cond, List, length, ltb}
+use Rattle.std.specs.Prelude.{ℕ, ◌+◌, ◌*◌, ◌-◌, ◌^◌, ◌≡◌, cond, List, length, ltb, Option, Some, None}
 use Rattle.address.specs.Layout.{line_bytes}
 use Rattle.board.specs.Lists.{part}
 use Rattle.board.specs.declared.Shape.{Shape}
-use Rattle.board.specs.declared.Found.{Found}
-use Rattle.board.specs.declared.Found.TheVariants.{At, Nothing}
 use Rattle.lines.specs.Holds.{keeper_of}
 use Rattle.machine.specs.Boards.{Board}
 use Rattle.machine.specs.Refusals.{by_table}
@@ -18,9 +16,9 @@ abbrev pub nowhere : ℕ
 nowhere = 2 ^ 64 - 1
 
 -- where a line's current bytes stand: 16 × record in the cache bytes, or 2^63 + 16 × line in memory
-unfoldable pub place_by : ℕ → Found → ℕ
-place_by line (At i) = line_bytes * i
-place_by line Nothing = in_memory + line_bytes * line
+unfoldable pub place_by : ℕ → Option ℕ → ℕ
+place_by line (Some i) = line_bytes * i
+place_by line None = in_memory + line_bytes * line
 
 unfoldable pub look_place : Shape → Board → ℕ → ℕ
 look_place s b line = by_table (λ n. nowhere) (look_table s b line) (place_by line (keeper_of s b.store.records line))

@@ -9,7 +9,7 @@ ghost use Rattle.stores.specs.Premises.{Sized};
 ghost use Rattle.look_place.specs.Lends.{place_by, LookPlace};
 ghost use Rattle.machine.specs.Boards.{sets_board};
 
-use board::{Found, LINE_BYTES, Shape};
+use board::{LINE_BYTES, Shape};
 
 // What look adds for a place in memory, and what it gives where it is refused.
 const IN_MEMORY: u64 = 9223372036854775808;
@@ -22,8 +22,8 @@ fn place_of_line(s: Shape, records: &[u64], cache: &[u8], memory: &[u8], line: u
     ensures { result ≡ place_by line (keeper_of s records.now line) }
 {
     match lines::keeper_of(s, records, line) {
-        Found::At(i) => (LINE_BYTES * i) as u64,
-        Found::Nothing => IN_MEMORY + (LINE_BYTES * line) as u64,
+        Some(i) => (LINE_BYTES * i) as u64,
+        None => IN_MEMORY + (LINE_BYTES * line) as u64,
     }
 }
 

@@ -1,6 +1,7 @@
 -- What an accepted shape gives a call, fact by fact, the first row of every table, and the outcome of a changed page map.
+use Rattle.std.specs.Prelude.{Result, Ok, Err}
 use Prim.Native.Nat.{ℕ, ◌*◌, ◌≤◌}
-use mathlib.Core.Path.{◌≡◌, refl}
+use mathlib.Core.Path.{◌≡◌, ◌∙◌, refl, sym}
 use mathlib.Core.Bool.{Bool, true, false}
 use mathlib.Core.List.{List, [], ◌∷◌}
 use native.Mathlib.Omega.{arith}
@@ -8,6 +9,9 @@ use lib.ListN.{length}
 use Rattle.address.specs.Layout.{page_bytes, process_slots}
 use Rattle.board.specs.Answers.{answer}
 use Rattle.board.specs.Shapes.{fits_shape, matrices_of, max_frames, max_processes, max_lines}
+use Rattle.board.specs.Refusals.{fit, call_answer}
+use Rattle.board.specs.declared.Refusal.{Refusal}
+use Rattle.board.specs.declared.Refusal.TheVariants.{Unfit}
 use Rattle.board.specs.declared.Shape.{Shape}
 use Rattle.board.specs.declared.Answer.{Answer}
 use Rattle.board.specs.declared.Pending.{Pending}
@@ -66,6 +70,61 @@ module _ (s : Shape) (slots w r c m : List ℕ) (u : Uses) (t : Bool)
       → outcome a (sets_board slots w r c m u tag₁) ≡ by_table (refused (sets_board slots w r c m u tag)) (row1 s (sets_board slots w r c m u tag) ∷ rows) d
   unfolding by_table
   unfit a tag tag₁ rows d h q p = rw (← f, h, q, p)
+
+-- the same where a call asked `fit` whether its buffers fit
+fitting : (t : Bool) → fit t ≡ Ok tt → true ≡ t
+fitting true e = refl
+fitting false e = absurd (let z : ◌≡◌ {A = ℕ} 0 1 = cc in omega arith)
+
+refusing : (t : Bool) (why : Refusal) → fit t ≡ Err why → (t ≡ false) × (why ≡ Unfit)
+refusing true why e = absurd (let z : ◌≡◌ {A = ℕ} 0 1 = cc in omega arith)
+refusing false why e = (refl, cc)
+
+module _ (s : Shape) (slots w r c m : List ℕ) (u : Uses) (k : Result Unit Refusal)
+    (f : k ≡ fit (fits_shape s (length slots) (length w) (length r) (length c) (length m) (length u))) where
+  module _ (h : k ≡ Ok tt) where
+    pub fitted : true ≡ fits_shape s (length slots) (length w) (length r) (length c) (length m) (length u)
+    fitted = fitting (fits_shape s (length slots) (length w) (length r) (length c) (length m) (length u)) (sym f ∙ h)
+
+    pub fitted-sized : Sized s r c m
+    fitted-sized = fit-sized s slots w r c m u true fitted refl
+
+    pub fitted-slots : length slots ≡ s.processes * process_slots
+    fitted-slots = fit-slots s slots w r c m u true fitted refl
+
+    pub fitted-words : length w ≡ s.frames
+    fitted-words = fit_words s slots w r c m u true fitted refl
+
+    pub fitted-memory : length m ≡ page_bytes * s.frames
+    fitted-memory = fit-memory s slots w r c m u true fitted refl
+
+    pub fitted-uses : length u ≡ matrices_of s
+    fitted-uses = fit-uses s slots w r c m u true fitted refl
+
+    pub fitted-frames : s.frames ≤ max_frames
+    fitted-frames = fit-frames s slots w r c m u true fitted refl
+
+    pub fitted-lines : s.lines ≤ max_lines
+    fitted-lines = fit-lines s slots w r c m u true fitted refl
+
+    pub fitted-uncached : s.uncached ≤ s.frames
+    fitted-uncached = fit-uncached s slots w r c m u true fitted refl
+
+    pub fitted-processes : s.processes ≤ max_processes
+    fitted-processes = fit-processes s slots w r c m u true fitted refl
+
+    -- the table goes on after its first row
+    pub fitted-table : {A : Type 0} (refuse : ℕ → A) (tag : Pending) (rows : List Row) (d : A)
+        → by_table refuse rows d ≡ by_table refuse (row1 s (sets_board slots w r c m u tag) ∷ rows) d
+    fitted-table refuse tag rows d = fit-table s slots w r c m u true fitted refl refuse tag rows d
+
+  -- number 1, whatever the call: nothing changes. q is what the call gives where `fit` gave an error
+  pub unfitted : (q : Result Unit Refusal) (why : Refusal) (tag : Pending) (rows : List Row) (d : Outcome) → k ≡ Err why → q ≡ Err why
+      → outcome (call_answer q) (sets_board slots w r c m u tag)
+      ≡ by_table (refused (sets_board slots w r c m u tag)) (row1 s (sets_board slots w r c m u tag) ∷ rows) d
+  unfitted q why tag rows d h e =
+      let z = refusing (fits_shape s (length slots) (length w) (length r) (length c) (length m) (length u)) why (sym f ∙ h) in
+      rw (e, z.1) (unfit s slots w r c m u (fits_shape s (length slots) (length w) (length r) (length c) (length m) (length u)) refl (answer 1 0 0) tag tag rows d z.0 refl refl)
 
 -- the outcome with the words and the store of a changed page map
 pub pages-done : (slots w r c m : List ℕ) (u : Uses) (tag : Pending) (a : Answer) (p : Pages) (w₁ r₁ m₁ : List ℕ) → pages w₁ r₁ c m₁ ≡ p → a ≡ answer 0 0 0

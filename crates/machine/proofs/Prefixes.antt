@@ -1,4 +1,5 @@
 -- What an address's region says of the address, and that a name under prefix 1 is reached where rows 10 and 12 do not apply.
+use Rattle.std.specs.Prelude.{Option, Some, None}
 use Prim.Native.Nat.{ℕ, ◌/◌, ◌%◌, ◌<◌}
 use mathlib.Core.Path.{◌≡◌, refl, sym, ap}
 use mathlib.Core.Bool.{Bool, true, false, cond}
@@ -12,11 +13,9 @@ use Rattle.address.specs.Addresses.{region_of, prefix_of, name_of, page_of, page
 use Rattle.address.specs.declared.Global.{Global}
 use Rattle.address.specs.declared.Region.TheVariants.{Uncached, Cached, PageTable, Ordinary}
 use Rattle.pages.specs.Pages.{mapped_to, direct_frame, free_frame, home_of}
+use Rattle.board.specs.Homes.{at_line}
 use Rattle.board.specs.declared.Shape.{Shape}
-use Rattle.board.specs.declared.Found.{Found}
-use Rattle.board.specs.declared.Found.TheVariants.{At, Nothing}
 use Rattle.board.specs.declared.Home.{Home}
-use Rattle.board.specs.declared.Home.TheVariants.{Line}
 use Rattle.board.proofs.Bools.{or-false}
 use Rattle.pages.proofs.Frames.{mapped-none, direct-some, home-direct}
 use Rattle.reach.specs.Reach.{way_by_home, way_by, way_of, unreached}
@@ -56,7 +55,7 @@ module _ (g : Global) where
 
 module _ (s : Shape) (words : List ℕ) (g : Global) (p : prefix_of g ≡ 1) where
   -- its page is not ordinary, so the page map is not asked
-  prefix-unmapped : Nothing ≡ mapped_to s words (page_of_name (name_of g))
+  prefix-unmapped : None ≡ mapped_to s words (page_of_name (name_of g))
   prefix-unmapped = mapped-none s words (page_of_name (name_of g)) false (rw (lt-leb first_page (page_of_name (name_of g)) (omega arith))) refl
 
   prefix-free : word_in_use words (frame_under g) ≡ false → outside s (frame_under g) Cached ≡ false → free_frame s words (direct_frame (name_of g)) ≡ true
@@ -67,16 +66,16 @@ module _ (s : Shape) (words : List ℕ) (g : Global) (p : prefix_of g ≡ 1) whe
       rw (z, le-leb s.uncached (frame_under g) (ltb-false _ _ y.1), lt-ltb (frame_under g) s.frames (leb-false _ _ y.0), not-false (eqb (get_or words (frame_under g) 0) 0) u)
 
   pub prefix-home : word_in_use words (frame_under g) ≡ false → outside s (frame_under g) Cached ≡ false
-      → Line (name_of g % prefix_lines) true ≡ home_of s words (name_of g)
+      → Some (at_line (name_of g % prefix_lines) true) ≡ home_of s words (name_of g)
   prefix-home u o =
-      home-direct s words (name_of g) Nothing prefix-unmapped _ refl
+      home-direct s words (name_of g) None prefix-unmapped _ refl
       (direct-some s words (name_of g) true (sym (prefix-free u o)) (omega arith) refl)
 
   module _ (records : List ℕ) (u : word_in_use words (frame_under g) ≡ false) (o : outside s (frame_under g) Cached ≡ false) where
-    found-reached : (found : Found) → unreached (way_by records (home_of s words (name_of g)) found) ≡ false
+    found-reached : (found : Option ℕ) → unreached (way_by records (home_of s words (name_of g)) found) ≡ false
     unfolding way_by unreached way_by_home
-    found-reached (At i) = refl
-    found-reached Nothing = ap (λ (h : Home). unreached (way_by_home h)) (sym (prefix-home u o))
+    found-reached (Some i) = refl
+    found-reached None = ap (λ (h : Option Home). unreached (way_by_home h)) (sym (prefix-home u o))
 
     pub prefix-reached : unreached (way_to s words records g) ≡ false
     unfolding way_of

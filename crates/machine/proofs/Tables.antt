@@ -1,11 +1,19 @@
 -- Laws of refusal tables: one after another, what a passed table says, what holds of all that a table gives, and how an
 -- outcome is carried through a table.
+use Rattle.std.specs.Prelude.{Result, Ok, Err}
 use Prim.Native.Nat.{ℕ, suc, zero}
-use mathlib.Core.Path.{◌≡◌, refl, ap}
-use mathlib.Core.Bool.{Bool, true, false, cond}
+use mathlib.Core.Path.{◌≡◌, ◌∙◌, refl, ap}
+use mathlib.Core.Bool.{Bool, true, false, ◌&&◌, cond}
 use mathlib.Core.List.{List, [], ◌∷◌, ◌++◌}
+use native.Mathlib.Omega.{arith}
+use lib.Dec.{eqb, leb}
 use lib.ListN.{get_or}
-use Rattle.machine.specs.Refusals.{Row, row, by_table}
+use borrow.Author.Tests.{eqb-true, leb-true}
+use Rattle.board.specs.Refusals.{number_of, refusal_of}
+use Rattle.board.specs.declared.Refusal.{Refusal}
+use Rattle.board.proofs.Bools.{and_left, and_right}
+use Rattle.board.proofs.Tables.{every_below, every-below}
+use Rattle.machine.specs.Refusals.{Row, row, by_table, checked}
 
 module _ {A : Type 0} (refuse : ℕ → A) where
   -- a table that goes on in another
@@ -72,3 +80,40 @@ table-both R f g refusals (r ∷ rows) x y h = go r.applies refl (table-both R f
 pub table-cases : {A : Type 0} (P : A → Type 0) (refuse : ℕ → A) → ((n : ℕ) → P (refuse n)) → (rows : List Row) (done : A) → (Passed rows → P done)
     → P (by_table refuse rows done)
 table-cases P refuse refuses rows done = table-both (λ x y. P x) refuse refuse refuses rows done done
+
+-- ---- what a check of the code gives, carried to the call
+
+-- a row's number is one of a refusal
+abbrev known_row : Row → Bool
+known_row r = leb 1 r.number && leb r.number 13
+
+unfoldable pub known : List Row → Bool
+known [] = true
+known (r ∷ rows) = known_row r && known rows
+
+same-number : ℕ → Bool
+same-number k = eqb (number_of (refusal_of (suc k))) (suc k)
+
+pub number-of : (n : ℕ) → (leb 1 n && leb n 13) ≡ true → number_of (refusal_of n) ≡ n
+unfolding same-number every_below
+number-of zero e = absurd (let z = leb-true 1 zero (and_left (leb 1 zero) (leb zero 13) e) in omega (arith, z))
+number-of (suc k) e =
+    let z = leb-true (suc k) 13 (and_right (leb 1 (suc k)) (leb (suc k) 13) e) in
+    eqb-true (number_of (refusal_of (suc k))) (suc k) (every-below 13 same-number refl k (omega (arith, z)))
+
+module _ {A B : Type 0} (refuse : ℕ → B) (go : A → B) where
+  -- a refusal, or what a check goes on with
+  unfoldable pub by_check : Result A Refusal → B
+  by_check (Err why) = refuse (number_of why)
+  by_check (Ok x) = go x
+
+  known-numbers : (rows : List Row) (d : B) → known rows ≡ true → by_table (λ n. refuse (number_of (refusal_of n))) rows d ≡ by_table refuse rows d
+  unfolding by_table known
+  known-numbers [] d h = refl
+  known-numbers (r ∷ rows) d h =
+      rw (number-of r.number (and_left (known_row r) (known rows) h), known-numbers rows d (and_right (known_row r) (known rows) h)) refl
+
+  -- a table that a check asked does what that says
+  pub check-table : (rows : List Row) (x : A) (k : Result A Refusal) → known rows ≡ true → k ≡ checked rows x → by_check k ≡ by_table refuse rows (go x)
+  unfolding by_check
+  check-table rows x k h e = ap by_check e ∙ table-map by_check (λ n. Err (refusal_of n)) rows (Ok x) ∙ known-numbers rows (go x) h

@@ -1,5 +1,5 @@
 -- 01, "Calls": user access and supervisor access.
-use Rattle.std.specs.Prelude.{ℕ, ◌%◌, true, false, not, ◌&&◌, ◌||◌, cond, List, [], ◌∷◌, ◌++◌, get_or}
+use Rattle.std.specs.Prelude.{ℕ, ◌%◌, true, false, not, ◌&&◌, ◌||◌, cond, List, [], ◌∷◌, ◌++◌, get_or, Option, Some, None}
 use Rattle.address.specs.Layout.{line_bytes}
 use Rattle.address.specs.Addresses.{slot_of, global_of, name_of, region_of, physical_of, frame_of_physical, is_kernels}
 use Rattle.address.specs.declared.Effective.{Effective}
@@ -18,7 +18,7 @@ use Rattle.lines.specs.Victims.{Uses, victim_of, used_in}
 use Rattle.reach.specs.Reach.{way_of, unreached}
 use Rattle.stores.specs.declared.Access.{Access}
 use Rattle.reach.specs.declared.Way.{Way}
-use Rattle.reach.specs.declared.Way.TheVariants.{Held, InMemory, Missing}
+use Rattle.reach.specs.declared.Way.TheVariants.{Held, InMemory}
 use Rattle.machine.specs.Boards.{Board, Outcome, outcome, refused, with_use}
 use Rattle.machine.specs.Refusals.{Row, row, by_table, row1, is_process, is_global, too_large, aligned_to, slot_rows, line_rows, word_in_use, is_ordinary, is_cached, outside}
 
@@ -48,17 +48,17 @@ performed_on i offset a mark b = reached_by (performed_at i offset a b.records b
 -- a held line is taken as it is; else the line is filled in the record `to` with the page's present permission. The mark goes by the records before
 -- the call (and by the matrices, where they pick that record): whether the line is held, and whether the line of that record must be written back.
 -- (A line that is nowhere has been refused, by row 8 or under prefix 1 by row 10 or 12, so the last clause is never asked.)
-unfoldable pub accessed_by : Shape → ℕ → ℕ → ℕ → Access → Store → Way → Reached
-accessed_by s to name offset a b (Held i write) = performed_on i offset a (mark_of true false) b
-accessed_by s to name offset a b (InMemory line write) =
+unfoldable pub accessed_by : Shape → ℕ → ℕ → ℕ → Access → Store → Option Way → Reached
+accessed_by s to name offset a b (Some (Held i write)) = performed_on i offset a (mark_of true false) b
+accessed_by s to name offset a b (Some (InMemory line write)) =
     performed_on to offset a (mark_of false (must_write_back s b.records to)) (inserted s to name line write b)
-accessed_by s to name offset a b Missing = stopped b 8
+accessed_by s to name offset a b None = stopped b 8
 
 -- the use of the record that held the line, or was filled
-unfoldable pub uses_by : Shape → ℕ → Uses → Way → Uses
-uses_by s to uses (Held i write) = used_in s uses i
-uses_by s to uses (InMemory line write) = used_in s uses to
-uses_by s to uses Missing = uses
+unfoldable pub uses_by : Shape → ℕ → Uses → Option Way → Uses
+uses_by s to uses (Some (Held i write)) = used_in s uses i
+uses_by s to uses (Some (InMemory line write)) = used_in s uses to
+uses_by s to uses None = uses
 
 -- what an access gives, with the matrices after
 pub record Touched : Type 0 where
@@ -69,7 +69,7 @@ abbrev pub touched : Reached → Uses → Touched
 touched r uses = record { reached = r; uses = uses }
 
 -- the way to the line of a global address
-abbrev pub way_to : Shape → List ℕ → List ℕ → Global → Way
+abbrev pub way_to : Shape → List ℕ → List ℕ → Global → Option Way
 way_to s words records g = way_of s words records (name_of g)
 
 -- a line that is not held is filled in the victim of its set

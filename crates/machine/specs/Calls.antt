@@ -1,13 +1,11 @@
 -- 01, "Calls": attach, detach, map, unmap, protect, flush all, tag, load-and-map and drop tag; and move (CR 9).
 -- Each call is its table, and what it does if no row applies.
-use Rattle.std.specs.Prelude.{ℕ, Bool, not, ◌&&◌, List, [], ◌∷◌, get_or, set, eqb}
+use Rattle.std.specs.Prelude.{ℕ, Bool, not, ◌&&◌, List, [], ◌∷◌, get_or, set, eqb, Option, Some, None}
 use Rattle.address.specs.Addresses.{attachable, ordinary_page, page_of_name}
 use Rattle.slots.specs.Slots.{slot_index, slot_word}
 use Rattle.pages.specs.Pages.{frame_word, word_writes, mapped_to, line_in}
 use Rattle.board.specs.declared.Shape.{Shape}
 use Rattle.board.specs.declared.Pending.{Pending}
-use Rattle.board.specs.declared.Found.{Found}
-use Rattle.board.specs.declared.Found.TheVariants.{At, Nothing}
 use Rattle.line_bytes.specs.Bytes.{zeroed_frame}
 use Rattle.stores.specs.Stores.{Store, store, inserted}
 use Rattle.lines.specs.Holds.{holder_of}
@@ -17,9 +15,9 @@ use Rattle.machine.specs.Boards.{Board, Outcome, refused, done, no_tag, tagged, 
 use Rattle.machine.specs.Refusals.{Row, row, by_table, row1, is_process, is_slot, is_frame, is_physical_line, is_name, is_mapped, word_in_use}
 
 -- the frame that was found (where none was, a row has refused)
-unfoldable pub found_frame : Found → ℕ
-found_frame (At frame) = frame
-found_frame Nothing = 0
+unfoldable pub found_frame : Option ℕ → ℕ
+found_frame (Some frame) = frame
+found_frame None = 0
 
 -- ---- attach (process, slot, segment, write bit; replaces what was there)
 
@@ -133,7 +131,7 @@ tag s b name = by_table (refused b) (tag_table s b name) (done (with_tag b (tagg
 -- ---- load-and-map (physical line): inserts the line with the page's present permission; if the line is held already it only clears the tag
 
 -- the frame of the name's page, the physical line of the name in it, and the page's permission
-abbrev pub name_frame : Shape → List ℕ → ℕ → Found
+abbrev pub name_frame : Shape → List ℕ → ℕ → Option ℕ
 name_frame s words name = mapped_to s words (page_of_name name)
 
 abbrev pub name_line : Shape → List ℕ → ℕ → ℕ
@@ -150,13 +148,13 @@ abbrev pub load_rows : Shape → List ℕ → Pending → ℕ → List Row
 load_rows s words t line = row 2 (not (is_physical_line s line)) ∷ row 3 (not t.set) ∷ home_rows s words t.name line
 
 -- a line that is held stays as it is, which is no use; else it is inserted in the record `to`, which is one
-unfoldable pub loaded_by : Shape → ℕ → ℕ → ℕ → Bool → Store → Found → Store
-loaded_by s to name line write x (At i) = x
-loaded_by s to name line write x Nothing = inserted s to name line write x
+unfoldable pub loaded_by : Shape → ℕ → ℕ → ℕ → Bool → Store → Option ℕ → Store
+loaded_by s to name line write x (Some i) = x
+loaded_by s to name line write x None = inserted s to name line write x
 
-unfoldable pub loaded_uses : Shape → ℕ → Uses → Found → Uses
-loaded_uses s to uses (At i) = uses
-loaded_uses s to uses Nothing = used_in s uses to
+unfoldable pub loaded_uses : Shape → ℕ → Uses → Option ℕ → Uses
+loaded_uses s to uses (Some i) = uses
+loaded_uses s to uses None = used_in s uses to
 
 -- the store, and the matrices, with the line inserted in the victim of its set
 pub record Loaded : Type 0 where

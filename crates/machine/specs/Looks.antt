@@ -1,9 +1,7 @@
 -- 01, "Calls": look (physical line). It changes nothing.
-use Rattle.std.specs.Prelude.{ℕ, ◌+◌, ◌*◌, not, List, [], ◌∷◌}
+use Rattle.std.specs.Prelude.{ℕ, ◌+◌, ◌*◌, not, List, [], ◌∷◌, Option, Some, None}
 use Rattle.address.specs.Layout.{line_bytes}
 use Rattle.board.specs.declared.Shape.{Shape}
-use Rattle.board.specs.declared.Found.{Found}
-use Rattle.board.specs.declared.Found.TheVariants.{At, Nothing}
 use Rattle.lines.specs.Holds.{keeper_of}
 use Rattle.stores.specs.Stores.{current}
 use Rattle.machine.specs.Boards.{Board}
@@ -29,9 +27,9 @@ abbrev pub line_start : Start → ℕ → Start
 line_start start line = (start.0, start.1 + line_bytes * line)
 
 -- where a line's current bytes begin, by where the cache bytes and memory begin
-unfoldable pub start_by : Start → Start → ℕ → Found → Start
-start_by cache memory line (At i) = line_start cache i
-start_by cache memory line Nothing = line_start memory line
+unfoldable pub start_by : Start → Start → ℕ → Option ℕ → Start
+start_by cache memory line (Some i) = line_start cache i
+start_by cache memory line None = line_start memory line
 
 -- where the part begins that look gives: it is a part of the cache bytes or of memory itself; refused, it is empty and begins with the cache bytes
 unfoldable pub look_start : Shape → Board → ℕ → Start → Start → Start

@@ -1,5 +1,5 @@
 -- 01, "Refusal numbers": what each row asks, in the table's order. A call's table is a list of rows, by rising number.
-use Rattle.std.specs.Prelude.{ℕ, ◌*◌, ◌%◌, ◌^◌, Bool, true, false, not, ◌&&◌, ◌||◌, cond, List, [], ◌∷◌, get_or, eqb, leb, ltb}
+use Rattle.std.specs.Prelude.{ℕ, ◌*◌, ◌%◌, ◌^◌, Bool, true, false, not, ◌&&◌, ◌||◌, cond, List, [], ◌∷◌, get_or, eqb, leb, ltb, Option, Some, None, Result, Ok, Err}
 use Rattle.address.specs.Layout.{page_lines, process_slots, global_end}
 use Rattle.address.specs.Addresses.{ordinary_page, page_of_name}
 use Rattle.address.specs.Entries.{has_entry}
@@ -7,9 +7,9 @@ use Rattle.address.specs.declared.Global.{Global}
 use Rattle.address.specs.declared.Region.{Region}
 use Rattle.address.specs.declared.Region.TheVariants.{Uncached, Cached, PageTable, Ordinary}
 use Rattle.slots.specs.Slots.{slot_empty, slot_writes}
+use Rattle.board.specs.Refusals.{refusal_of}
+use Rattle.board.specs.declared.Refusal.{Refusal}
 use Rattle.board.specs.declared.Shape.{Shape}
-use Rattle.board.specs.declared.Found.{Found}
-use Rattle.board.specs.declared.Found.TheVariants.{At, Nothing}
 use Rattle.reach.specs.Reach.{unreached, may_write}
 use Rattle.stores.specs.declared.Access.{Access}
 use Rattle.reach.specs.declared.Way.{Way}
@@ -31,6 +31,10 @@ by_table refuse (r ∷ rows) done = cond r.applies (refuse r.number) (by_table r
 -- the number that a table gives: the lowest row that applies, 0 if none does
 abbrev pub lowest : List Row → ℕ
 lowest rows = by_table (λ n. n) rows 0
+
+-- what the code of a call decides by a table before it changes anything: the refusal of the lowest row that applies, or what it goes on with
+abbrev pub checked : {A : Type 0} → List Row → A → Result A Refusal
+checked rows go = by_table (λ n. Err (refusal_of n)) rows (Ok go)
 
 -- 1: buffer lengths or F, U, P, L disagree or are out of limits
 abbrev pub row1 : Shape → Board → Row
@@ -83,12 +87,12 @@ abbrev pub slot_rows : ℕ → Access → List Row
 slot_rows word a = row 6 (slot_empty word) ∷ row 7 (a.store && not (slot_writes word)) ∷ []
 
 -- 8: page not mapped: an access whose line isn't held (`unreached`), or a page that is mapped to no frame
-unfoldable pub is_mapped : Found → Bool
-is_mapped (At frame) = true
-is_mapped Nothing = false
+unfoldable pub is_mapped : Option ℕ → Bool
+is_mapped (Some frame) = true
+is_mapped None = false
 
 -- 9: user store, page read-only (from the record if the line is held, else from the frame word)
-abbrev pub line_rows : Access → Way → List Row
+abbrev pub line_rows : Access → Option Way → List Row
 line_rows a way = row 8 (unreached way) ∷ row 9 (a.store && not (may_write way)) ∷ []
 
 -- 10: map, or prefix 1 access: the frame's word is not 0

@@ -1,4 +1,5 @@
 -- Map: its number, the change, and the returns.
+use Rattle.std.specs.Prelude.{Option, Some, None}
 use Prim.Native.Nat.{ℕ, zero, suc, ◌<◌, ◌^◌}
 use mathlib.Core.Path.{◌≡◌, ◌∙◌, refl, sym, ap}
 use mathlib.Core.Bool.{Bool, true, false, not, ◌&&◌, cond}
@@ -14,8 +15,6 @@ use Rattle.pages.specs.Pages.{mapped_to, frame_word}
 use Rattle.board.specs.declared.Shape.{Shape}
 use Rattle.board.specs.declared.Answer.{Answer}
 use Rattle.board.specs.declared.Pending.{Pending}
-use Rattle.board.specs.declared.Found.{Found}
-use Rattle.board.specs.declared.Found.TheVariants.{At, Nothing}
 use Rattle.board.proofs.Bools.{and_left, and_right}
 use Rattle.pages.proofs.Frames.{ordinary-below}
 use Rattle.line_bytes.specs.Bytes.{zeroed_frame}
@@ -44,12 +43,12 @@ module _ (s : Shape) (words : List ℕ) (page frame : ℕ) (p q : Bool) (e : p �
     unfolding map_number by_table
     number-used n = rw (← e, ← g, h, ne_eqb _ _ n)
 
-    module _ (z : get_or words frame 0 ≡ 0) (found : Found) (k : found ≡ mapped_to s words page) where
-      pub number-mapped : (f : ℕ) → found ≡ At f → 11 ≡ map_number s words page frame
+    module _ (z : get_or words frame 0 ≡ 0) (found : Option ℕ) (k : found ≡ mapped_to s words page) where
+      pub number-mapped : (f : ℕ) → found ≡ Some f → 11 ≡ map_number s words page frame
       unfolding map_number by_table is_mapped
       number-mapped f j = rw (← e, ← g, h, eq-eqb _ _ z, ← k, j)
 
-      pub number-none : found ≡ Nothing → 0 ≡ map_number s words page frame
+      pub number-none : found ≡ None → 0 ≡ map_number s words page frame
       unfolding map_number by_table is_mapped
       number-none j = rw (← e, ← g, h, eq-eqb _ _ z, ← k, j)
 

@@ -8,7 +8,7 @@ ghost use Rattle.machine.specs.Clauses.{Map};
 ghost use Rattle.map_call.specs.Numbers.{map_number};
 ghost use Rattle.machine.specs.Boards.{sets_board};
 
-use board::{Answer, Found, Shape, numbered};
+use board::{Answer, Shape, numbered};
 
 // A frame from U up and below F.
 fn is_frame(s: Shape, frame: usize) -> bool
@@ -28,8 +28,8 @@ fn map_number(s: Shape, words: &[u64], page: u64, frame: usize) -> u32
             return 10;
         }
         return match pages::mapped_to(s, words, page) {
-            Found::At(_) => 11,
-            Found::Nothing => 0,
+            Some(_) => 11,
+            None => 0,
         };
     }
     2

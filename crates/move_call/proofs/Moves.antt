@@ -1,4 +1,5 @@
 -- Move: the old page's frame or a number, the change, and the returns.
+use Rattle.std.specs.Prelude.{Option, Some, None}
 use Prim.Native.Nat.{ℕ, ◌<◌, ◌^◌}
 use mathlib.Core.Path.{◌≡◌, ◌∙◌, refl, sym, ap}
 use mathlib.Core.Bool.{Bool, true, false, not, ◌&&◌}
@@ -11,8 +12,6 @@ use Rattle.board.specs.Shapes.{fits_shape}
 use Rattle.board.specs.declared.Shape.{Shape}
 use Rattle.board.specs.declared.Answer.{Answer}
 use Rattle.board.specs.declared.Pending.{Pending}
-use Rattle.board.specs.declared.Found.{Found}
-use Rattle.board.specs.declared.Found.TheVariants.{At, Nothing}
 use Rattle.board.proofs.Bools.{and_left, and_right, and-false}
 use Rattle.pages.specs.Pages.{mapped_to, frame_word, word_writes}
 use Rattle.pages.proofs.Frames.{mapped-inside, ordinary-below}
@@ -33,20 +32,20 @@ use Rattle.move_call.specs.Checks.{move_frame}
 -- ---- the old page's frame, or a number
 
 -- what the frame of the new page makes of the old one's
-unfoldable unless_mapped : Found → Frame → Frame
+unfoldable unless_mapped : Option ℕ → Frame → Frame
 unless_mapped other (Stop n) = Stop n
-unless_mapped (At g) (On f) = Stop 11
-unless_mapped Nothing (On f) = On f
+unless_mapped (Some g) (On f) = Stop 11
+unless_mapped None (On f) = On f
 
 -- where the new page is ordinary, the rows are those of the old page, and then number 11
-rows-after : (x : Bool) (found other : Found)
+rows-after : (x : Bool) (found other : Option ℕ)
     → unless_mapped other (by_table Stop (row 2 (not x) ∷ row 8 (not (is_mapped found)) ∷ []) (On (found_frame found)))
     ≡ by_table Stop (row 2 (not (x && true)) ∷ row 8 (not (is_mapped found)) ∷ row 11 (is_mapped other) ∷ []) (On (found_frame found))
 unfolding by_table is_mapped found_frame unless_mapped
 rows-after false found other = refl
-rows-after true Nothing other = refl
-rows-after true (At f) (At g) = refl
-rows-after true (At f) Nothing = refl
+rows-after true None other = refl
+rows-after true (Some f) (Some g) = refl
+rows-after true (Some f) None = refl
 
 module _ (s : Shape) (words : List ℕ) (page new : ℕ) (t : Bool) (e : t ≡ ordinary_page new) where
   pub move-outside : t ≡ false → Stop 2 ≡ move_frame s words page new
@@ -62,26 +61,26 @@ module _ (s : Shape) (words : List ℕ) (page new : ℕ) (t : Bool) (e : t ≡ o
     unfolding unless_mapped
     move-stop n q = ap (unless_mapped (mapped_to s words new)) (sym q) ∙ move-after
 
-    module _ (f : ℕ) (q : k ≡ On f) (other : Found) (o : other ≡ mapped_to s words new) where
-      pub move_taken : (g : ℕ) → other ≡ At g → Stop 11 ≡ move_frame s words page new
+    module _ (f : ℕ) (q : k ≡ On f) (other : Option ℕ) (o : other ≡ mapped_to s words new) where
+      pub move_taken : (g : ℕ) → other ≡ Some g → Stop 11 ≡ move_frame s words page new
       unfolding unless_mapped
-      move_taken g z = ap (λ (x : Found). unless_mapped x (On f)) (sym z ∙ o) ∙ ap (unless_mapped (mapped_to s words new)) (sym q) ∙ move-after
+      move_taken g z = ap (λ (x : Option ℕ). unless_mapped x (On f)) (sym z ∙ o) ∙ ap (unless_mapped (mapped_to s words new)) (sym q) ∙ move-after
 
-      pub move-on : other ≡ Nothing → On f ≡ move_frame s words page new
+      pub move-on : other ≡ None → On f ≡ move_frame s words page new
       unfolding unless_mapped
-      move-on z = ap (λ (x : Found). unless_mapped x (On f)) (sym z ∙ o) ∙ ap (unless_mapped (mapped_to s words new)) (sym q) ∙ move-after
+      move-on z = ap (λ (x : Option ℕ). unless_mapped x (On f)) (sym z ∙ o) ∙ ap (unless_mapped (mapped_to s words new)) (sym q) ∙ move-after
 
 -- where the frame is given, it is the one that the old page is mapped to, and both pages are ordinary
-on-found : (x : Bool) (found other : Found) (f : ℕ)
-    → by_table Stop (row 2 (not x) ∷ row 8 (not (is_mapped found)) ∷ row 11 (is_mapped other) ∷ []) (On (found_frame found)) ≡ On f → (x ≡ true) × (found ≡ At f)
+on-found : (x : Bool) (found other : Option ℕ) (f : ℕ)
+    → by_table Stop (row 2 (not x) ∷ row 8 (not (is_mapped found)) ∷ row 11 (is_mapped other) ∷ []) (On (found_frame found)) ≡ On f → (x ≡ true) × (found ≡ Some f)
 unfolding by_table is_mapped found_frame
-on-found true (At g) Nothing f e = (refl, cc)
-on-found true (At g) (At n) f e = absurd (let z : ◌≡◌ {A = ℕ} 0 1 = cc in omega arith)
-on-found true Nothing other f e = absurd (let z : ◌≡◌ {A = ℕ} 0 1 = cc in omega arith)
+on-found true (Some g) None f e = (refl, cc)
+on-found true (Some g) (Some n) f e = absurd (let z : ◌≡◌ {A = ℕ} 0 1 = cc in omega arith)
+on-found true None other f e = absurd (let z : ◌≡◌ {A = ℕ} 0 1 = cc in omega arith)
 on-found false found other f e = absurd (let z : ◌≡◌ {A = ℕ} 0 1 = cc in omega arith)
 
 module _ (s : Shape) (words : List ℕ) (page new f : ℕ) (k : Frame) (e : k ≡ move_frame s words page new) (j : k ≡ On f) where
-  found : ((ordinary_page page && ordinary_page new) ≡ true) × (mapped_to s words page ≡ At f)
+  found : ((ordinary_page page && ordinary_page new) ≡ true) × (mapped_to s words page ≡ Some f)
   unfolding move_frame
   found = on-found (ordinary_page page && ordinary_page new) (mapped_to s words page) (mapped_to s words new) f (sym e ∙ j)
 

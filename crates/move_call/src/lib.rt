@@ -7,7 +7,7 @@ ghost use Rattle.machine.specs.Clauses.{Move};
 ghost use Rattle.move_call.specs.Checks.{move_frame};
 ghost use Rattle.machine.specs.Boards.{sets_board};
 
-use board::{Answer, Found, Shape, numbered};
+use board::{Answer, Shape, numbered};
 use page_calls::Frame;
 
 // Numbers 2, 8 and 11 of move, or the old page's frame.
@@ -18,8 +18,8 @@ fn move_frame(s: Shape, words: &[u64], page: u64, new: u64) -> Frame
         return match page_calls::page_frame(s, words, page) {
             Frame::Stop(n) => Frame::Stop(n),
             Frame::On(f) => match pages::mapped_to(s, words, new) {
-                Found::At(_) => Frame::Stop(11),
-                Found::Nothing => Frame::On(f),
+                Some(_) => Frame::Stop(11),
+                None => Frame::On(f),
             },
         };
     }

@@ -1,4 +1,5 @@
 -- Every report fits: a rule is at most 5, a frame is below F, a place below L, and no more lines are dropped than there are.
+use Rattle.std.specs.Prelude.{Option, Some, None}
 use Prim.Native.Nat.{ℕ, ◌+◌, ◌*◌, ◌/◌, ◌%◌, ◌≤◌, ◌<◌, ◌^◌}
 use mathlib.Core.Path.{◌≡◌, refl, sym, ap, ◌∙◌}
 use mathlib.Core.Bool.{Bool, true, false, not, ◌&&◌, cond}
@@ -9,8 +10,6 @@ use lib.ListN.{length}
 use Rattle.board.specs.Searches.{first}
 use Rattle.board.specs.Shapes.{max_frames, max_lines}
 use Rattle.board.specs.declared.Shape.{Shape}
-use Rattle.board.specs.declared.Found.{Found}
-use Rattle.board.specs.declared.Found.TheVariants.{At, Nothing}
 use Rattle.board.specs.declared.Home.{Home}
 use Rattle.board.proofs.Searches.{first-at}
 use Rattle.board.proofs.Shapes.{shaped}
@@ -32,16 +31,16 @@ use Rattle.oaledva_dump.specs.Reports.{number_unit, rule_unit, dropped_unit, unp
 small-report : (rule place : ℕ) → rule ≤ 5 → place < 2 ^ 24 → Small (report rule place)
 small-report rule place h l = record { number_below = omega arith; rule_at_most = omega arith; dropped_below = omega arith; place_below = l }
 
-small-or : (rule n : ℕ) (found : Found) (later : Report) → rule ≤ 5 → n ≤ max_frames → ((i : ℕ) → found ≡ At i → i < n) → Small later → Small (or_else rule found later)
+small-or : (rule n : ℕ) (found : Option ℕ) (later : Report) → rule ≤ 5 → n ≤ max_frames → ((i : ℕ) → found ≡ Some i → i < n) → Small later → Small (or_else rule found later)
 unfolding or_else
-small-or rule n (At i) later h l f x = small-report rule i h (let b = f i refl in omega arith)
-small-or rule n Nothing later h l f x = x
+small-or rule n (Some i) later h l f x = small-report rule i h (let b = f i refl in omega arith)
+small-or rule n None later h l f x = x
 
-found_below : (test : ℕ → Bool) (n i : ℕ) → first test 0 n ≡ At i → i < n
+found_below : (test : ℕ → Bool) (n i : ℕ) → first test 0 n ≡ Some i → i < n
 found_below test n i e = omega (arith, (first-at test 0 n i e).to)
 
 module _ (s : Shape) (frames : s.frames ≤ max_frames) (lines : s.lines ≤ max_lines) where
-  small-3 : (home : ℕ → Home) (x : Store) → Small (from_rule3 s home x)
+  small-3 : (home : ℕ → Option Home) (x : Store) → Small (from_rule3 s home x)
   unfolding doubled_line
   small-3 home x =
       small-or 3 s.lines _ _ (omega arith) (omega arith) (λ i e. found_below _ s.lines i e)
@@ -52,10 +51,10 @@ module _ (s : Shape) (frames : s.frames ≤ max_frames) (lines : s.lines ≤ max
   unfolding doubled_page
   small-2 words x = small-or 2 s.frames _ _ (omega arith) (omega arith) (λ i e. found_below _ s.frames i e) (small-3 (home_of s words) x)
 
-  small-mended : (words : List ℕ) (x : Store) (flags : List ℕ) (found : Found) → (found ≡ doubled_page s words) → Small (mended_pages s words x flags found).report
+  small-mended : (words : List ℕ) (x : Store) (flags : List ℕ) (found : Option ℕ) → (found ≡ doubled_page s words) → Small (mended_pages s words x flags found).report
   unfolding mended_pages doubled_page
-  small-mended words x flags (At f) e = small-report 2 f (omega arith) (let b = found_below _ s.frames f (sym e) in omega arith)
-  small-mended words x flags Nothing e =
+  small-mended words x flags (Some f) e = small-report 2 f (omega arith) (let b = found_below _ s.frames f (sym e) in omega arith)
+  small-mended words x flags None e =
       let a = small-3 (home_of s words) x in
       let d = how-many-most (dropped_at s x.records (repaired s (home_of s words) x).records) s.lines in
       record { number_below = a.number_below; rule_at_most = a.rule_at_most; dropped_below = omega arith; place_below = a.place_below }

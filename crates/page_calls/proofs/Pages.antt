@@ -1,4 +1,6 @@
 -- Unmap and protect: the frame, the change, and the returns.
+use Rattle.std.specs.Prelude.{Option, Some, None, Result, Ok, Err}
+use Rattle.std.specs.Option.{ok_or}
 use Prim.Native.Nat.{ℕ, ◌<◌, ◌^◌}
 use mathlib.Core.Path.{◌≡◌, ◌∙◌, refl, sym, ap}
 use mathlib.Core.Bool.{Bool, true, false, not}
@@ -10,47 +12,45 @@ use Rattle.board.specs.Answers.{answer}
 use Rattle.board.specs.Shapes.{fits_shape}
 use Rattle.pages.specs.Pages.{mapped_to, frame_word}
 use Rattle.board.specs.declared.Shape.{Shape}
-use Rattle.board.specs.declared.Answer.{Answer}
+use Rattle.board.specs.Refusals.{fit, call_answer}
+use Rattle.board.specs.declared.Refusal.{Refusal}
+use Rattle.board.specs.declared.Refusal.TheVariants.{OutOfRange, Unmapped}
 use Rattle.board.specs.declared.Pending.{Pending}
-use Rattle.board.specs.declared.Found.{Found}
-use Rattle.board.specs.declared.Found.TheVariants.{At, Nothing}
 use Rattle.pages.proofs.Frames.{mapped-inside, mapped-ordinary, ordinary-below}
 use Rattle.stores.specs.Stores.{store}
 use Rattle.visits.specs.Visits.{unmap_visit, protect_visit, visited_all}
 use Rattle.visits.specs.declared.Visit.{Visit}
 use Rattle.lines.specs.Victims.{Uses}
 use Rattle.machine.specs.Boards.{Board, sets_board, outcome, refused, done, pages, pages_of, with_pages}
-use Rattle.machine.specs.Refusals.{Row, row, by_table, is_mapped}
+use Rattle.machine.specs.Refusals.{row, by_table, checked, is_mapped}
 use Rattle.machine.specs.Calls.{found_frame, page_rows, unmapped, unmap, protected, protect}
-use Rattle.machine.proofs.Tables.{table-map}
+use Rattle.machine.proofs.Tables.{known, by_check, check-table}
 use Rattle.page_calls.specs.Checks.{page_frame}
-use Rattle.page_calls.specs.declared.Frame.{Frame}
-use Rattle.page_calls.specs.declared.Frame.TheVariants.{Stop, On}
-use Rattle.machine.proofs.Fits.{fit-table, pages-done}
+use Rattle.machine.proofs.Fits.{fitted-table, pages-done}
 
 module _ (s : Shape) (words : List ℕ) (page : ℕ) (t : Bool) (e : t ≡ ordinary_page page) where
-  pub frame-outside : t ≡ false → Stop 2 ≡ page_frame s words page
+  pub frame-outside : t ≡ false → Err OutOfRange ≡ page_frame s words page
   unfolding page_frame by_table
   frame-outside h = rw (← e, h)
 
-  module _ (h : t ≡ true) (found : Found) (k : found ≡ mapped_to s words page) where
-    pub frame-none : found ≡ Nothing → Stop 8 ≡ page_frame s words page
-    unfolding page_frame by_table is_mapped
-    frame-none j = rw (← e, h, ← k, j)
+  by-found : (found : Option ℕ) → ok_or found Unmapped ≡ checked (row 2 false ∷ row 8 (not (is_mapped found)) ∷ []) (found_frame found)
+  unfolding by_table is_mapped found_frame
+  by-found (Some f) = refl
+  by-found None = refl
 
-    pub frame_at : (f : ℕ) → found ≡ At f → On f ≡ page_frame s words page
-    unfolding page_frame by_table is_mapped found_frame
-    frame_at f j = rw (← e, h, ← k, j)
+  pub frame-found : (found : Option ℕ) (k : Result ℕ Refusal) → t ≡ true → found ≡ mapped_to s words page → k ≡ ok_or found Unmapped → k ≡ page_frame s words page
+  unfolding page_frame
+  frame-found found k h o j = rw (j, ← e, h, ← o) (by-found found)
 
 -- where the frame is given, it is the one that the page is mapped to
-on-found : (x : Bool) (found : Found) (f : ℕ) → by_table Stop (row 2 (not x) ∷ row 8 (not (is_mapped found)) ∷ []) (On (found_frame found)) ≡ On f → found ≡ At f
+on-found : (x : Bool) (found : Option ℕ) (f : ℕ) → checked (row 2 (not x) ∷ row 8 (not (is_mapped found)) ∷ []) (found_frame found) ≡ Ok f → found ≡ Some f
 unfolding by_table is_mapped found_frame
-on-found true (At g) f e = cc
-on-found true Nothing f e = absurd (let z : ◌≡◌ {A = ℕ} 0 1 = cc in omega arith)
+on-found true (Some g) f e = cc
+on-found true None f e = absurd (let z : ◌≡◌ {A = ℕ} 0 1 = cc in omega arith)
 on-found false found f e = absurd (let z : ◌≡◌ {A = ℕ} 0 1 = cc in omega arith)
 
-module _ (s : Shape) (words : List ℕ) (page f : ℕ) (k : Frame) (e : k ≡ page_frame s words page) (j : k ≡ On f) where
-  found_at : mapped_to s words page ≡ At f
+module _ (s : Shape) (words : List ℕ) (page f : ℕ) (k : Result ℕ Refusal) (e : k ≡ page_frame s words page) (j : k ≡ Ok f) where
+  found_at : mapped_to s words page ≡ Some f
   unfolding page_frame
   found_at = on-found (ordinary_page page) (mapped_to s words page) f (sym e ∙ j)
 
@@ -74,54 +74,43 @@ module _ (s : Shape) (page frame : ℕ) (w r c m r₁ m₁ : List ℕ) where
 
 -- ---- the returns
 
--- a frame or a stop, carried to a call
-unfoldable pub by_frame : {A : Type 0} → (ℕ → A) → (ℕ → A) → Frame → A
-by_frame refuse go (Stop n) = refuse n
-by_frame refuse go (On f) = go f
-
--- a table that gives the one or the other does what that says
-pub frame_on : {A : Type 0} (refuse : ℕ → A) (go : ℕ → A) (rows : List Row) (f : ℕ) (k : Frame) → k ≡ by_table Stop rows (On f)
-    → by_frame refuse go k ≡ by_table refuse rows (go f)
-unfolding by_frame
-frame_on refuse go rows f k e = rw e (table-map (by_frame refuse go) Stop rows (On f))
-
-module _ (s : Shape) (slots w r c m : List ℕ) (u : Uses) (tag : Pending) (t : Bool)
-    (f : t ≡ fits_shape s (length slots) (length w) (length r) (length c) (length m) (length u)) (h : t ≡ true) (page : ℕ) (a : Answer) where
+module _ (s : Shape) (slots w r c m : List ℕ) (u : Uses) (tag : Pending) (t : Result Unit Refusal)
+    (f : t ≡ fit (fits_shape s (length slots) (length w) (length r) (length c) (length m) (length u))) (h : t ≡ Ok tt) (page : ℕ) where
   abbrev b : Board
   b = sets_board slots w r c m u tag
 
-  module _ (k : Frame) (e : k ≡ page_frame s w page) where
-    unmap-on : by_frame (refused b) (λ x. done (with_pages b (unmapped s page x (pages_of b)))) k ≡ unmap s b page
-    unfolding unmap page_frame
+  module _ (k : Result ℕ Refusal) (e : k ≡ page_frame s w page) where
+    unmap-on : by_check (refused b) (λ x. done (with_pages b (unmapped s page x (pages_of b)))) k ≡ unmap s b page
+    unfolding unmap page_frame known
     unmap-on =
-        frame_on (refused b) (λ x. done (with_pages b (unmapped s page x (pages_of b)))) (page_rows s w page) _ k e
-        ∙ fit-table s slots w r c m u t f h (refused b) tag _ _
+        check-table (refused b) (λ x. done (with_pages b (unmapped s page x (pages_of b)))) (page_rows s w page) _ k refl e
+        ∙ fitted-table s slots w r c m u t f h (refused b) tag _ _
 
-    pub unmap-stop : (n : ℕ) → k ≡ Stop n → a ≡ answer n 0 0 → outcome a b ≡ unmap s b page
-    unfolding by_frame
-    unmap-stop n j q = rw q (ap (by_frame (refused b) (λ x. done (with_pages b (unmapped s page x (pages_of b))))) (sym j) ∙ unmap-on)
+    pub unmap-stop : (q : Result Unit Refusal) (why : Refusal) → k ≡ Err why → q ≡ Err why → outcome (call_answer q) b ≡ unmap s b page
+    unfolding by_check
+    unmap-stop q why j p = rw p (ap (by_check (refused b) (λ x. done (with_pages b (unmapped s page x (pages_of b))))) (sym j) ∙ unmap-on)
 
-    pub unmap-done : (x : ℕ) (v : Visit) (r₁ m₁ : List ℕ) → k ≡ On x → v ≡ unmap_visit page → store r₁ c m₁ ≡ visited_all s v (store r c m) → a ≡ answer 0 0 0
-        → outcome a (sets_board slots (set w x 0) r₁ c m₁ u tag) ≡ unmap s b page
-    unfolding by_frame
-    unmap-done x v r₁ m₁ j z e q =
-        pages-done slots w r c m u tag a _ (set w x 0) r₁ m₁ (unmapped-by s page x w r c m r₁ m₁ v z e) q
-        ∙ (ap (by_frame (refused b) (λ y. done (with_pages b (unmapped s page y (pages_of b))))) (sym j) ∙ unmap-on)
+    pub unmap-done : (x : ℕ) (v : Visit) (r₁ m₁ : List ℕ) → k ≡ Ok x → v ≡ unmap_visit page → store r₁ c m₁ ≡ visited_all s v (store r c m)
+        → outcome (answer 0 0 0) (sets_board slots (set w x 0) r₁ c m₁ u tag) ≡ unmap s b page
+    unfolding by_check
+    unmap-done x v r₁ m₁ j z e =
+        pages-done slots w r c m u tag (answer 0 0 0) _ (set w x 0) r₁ m₁ (unmapped-by s page x w r c m r₁ m₁ v z e) refl
+        ∙ (ap (by_check (refused b) (λ y. done (with_pages b (unmapped s page y (pages_of b))))) (sym j) ∙ unmap-on)
 
     module _ (write : Bool) where
-      protect-on : by_frame (refused b) (λ x. done (with_pages b (protected s page x write (pages_of b)))) k ≡ protect s b page write
-      unfolding protect page_frame
+      protect-on : by_check (refused b) (λ x. done (with_pages b (protected s page x write (pages_of b)))) k ≡ protect s b page write
+      unfolding protect page_frame known
       protect-on =
-          frame_on (refused b) (λ x. done (with_pages b (protected s page x write (pages_of b)))) (page_rows s w page) _ k e
-          ∙ fit-table s slots w r c m u t f h (refused b) tag _ _
+          check-table (refused b) (λ x. done (with_pages b (protected s page x write (pages_of b)))) (page_rows s w page) _ k refl e
+          ∙ fitted-table s slots w r c m u t f h (refused b) tag _ _
 
-      pub protect-stop : (n : ℕ) → k ≡ Stop n → a ≡ answer n 0 0 → outcome a b ≡ protect s b page write
-      unfolding by_frame
-      protect-stop n j q = rw q (ap (by_frame (refused b) (λ x. done (with_pages b (protected s page x write (pages_of b))))) (sym j) ∙ protect-on)
+      pub protect-stop : (q : Result Unit Refusal) (why : Refusal) → k ≡ Err why → q ≡ Err why → outcome (call_answer q) b ≡ protect s b page write
+      unfolding by_check
+      protect-stop q why j p = rw p (ap (by_check (refused b) (λ x. done (with_pages b (protected s page x write (pages_of b))))) (sym j) ∙ protect-on)
 
-      pub protect-done : (x word : ℕ) (v : Visit) (r₁ m₁ : List ℕ) → k ≡ On x → v ≡ protect_visit page write → store r₁ c m₁ ≡ visited_all s v (store r c m)
-          → word ≡ frame_word page write → a ≡ answer 0 0 0 → outcome a (sets_board slots (set w x word) r₁ c m₁ u tag) ≡ protect s b page write
-      unfolding by_frame
-      protect-done x word v r₁ m₁ j z e g q =
-          pages-done slots w r c m u tag a _ (set w x word) r₁ m₁ (protected-by s page x w r c m r₁ m₁ write word v z e g) q
-          ∙ (ap (by_frame (refused b) (λ y. done (with_pages b (protected s page y write (pages_of b))))) (sym j) ∙ protect-on)
+      pub protect-done : (x word : ℕ) (v : Visit) (r₁ m₁ : List ℕ) → k ≡ Ok x → v ≡ protect_visit page write → store r₁ c m₁ ≡ visited_all s v (store r c m)
+          → word ≡ frame_word page write → outcome (answer 0 0 0) (sets_board slots (set w x word) r₁ c m₁ u tag) ≡ protect s b page write
+      unfolding by_check
+      protect-done x word v r₁ m₁ j z e g =
+          pages-done slots w r c m u tag (answer 0 0 0) _ (set w x word) r₁ m₁ (protected-by s page x w r c m r₁ m₁ write word v z e g) refl
+          ∙ (ap (by_check (refused b) (λ y. done (with_pages b (protected s page y write (pages_of b))))) (sym j) ∙ protect-on)

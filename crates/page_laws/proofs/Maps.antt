@@ -1,5 +1,6 @@
 -- The page map: what words name, the frame of a page, where a name leads, that no two names share a home, and what a changed
 -- frame word leaves alone. Stands on `board`'s Searches and on the map laws of `pages`.
+use Rattle.std.specs.Prelude.{Option, Some, None}
 use Prim.Native.Nat.{ℕ, zero, suc, ◌+◌, ◌*◌, ◌-◌, ◌/◌, ◌%◌, ◌≤◌, ◌<◌}
 use mathlib.Core.Logic.{◌≢◌}
 use mathlib.Core.Path.{◌≡◌, refl, sym, ap, ◌∙◌}
@@ -13,10 +14,8 @@ use borrow.Author.Tests.{eqb-true, eqb-false, ltb-true, leb-true, eq-eqb, ne_eqb
 use Rattle.address.specs.Layout.{first_page, page_lines, prefix_lines}
 use Rattle.address.specs.Addresses.{ordinary_page}
 use Rattle.pages.specs.Pages.{frame_word, names_page, word_writes, lowest_from, lowest_frame, mapped_to, free_frame, direct_home, home_by, home_of}
+use Rattle.board.specs.Homes.{at_line}
 use Rattle.board.specs.declared.Shape.{Shape}
-use Rattle.board.specs.declared.Found.{Found}
-use Rattle.board.specs.declared.Found.TheVariants.{At, Nothing}
-use Rattle.board.specs.declared.Home.TheVariants.{Line, Nowhere}
 use Rattle.board.proofs.Bools.{clash, and_left, and_right}
 use Rattle.pages.proofs.Frames.{mapped-ordinary, home_at, home-direct, direct-other, home-inside, if-line}
 use Rattle.machine.specs.Refusals.{is_mapped}
@@ -92,17 +91,17 @@ pub record Mapped (s : Shape) (words : List ℕ) (page f : ℕ) : Type 0 where
   pub odd : get_or words f 0 % 2 ≡ 1
 
 module _ (s : Shape) (words : List ℕ) (page : ℕ) where
-  abbrev search : Found
+  abbrev search : Option ℕ
   search = first (names words page) s.uncached (length words - s.uncached)
 
-  mapped-search : mapped_to s words page ≡ cond (ordinary_page page) search Nothing
+  mapped-search : mapped_to s words page ≡ cond (ordinary_page page) search None
   unfolding mapped_to lowest_frame
   mapped-search = rw (lowest-first words page s.uncached (length words - s.uncached) refl)
 
   ordinary-search : ordinary_page page ≡ true → mapped_to s words page ≡ search
   ordinary-search o = mapped-search ∙ rw o
 
-  pub mapped-frame : (f : ℕ) → mapped_to s words page ≡ At f → Mapped s words page f
+  pub mapped-frame : (f : ℕ) → mapped_to s words page ≡ Some f → Mapped s words page f
   mapped-frame f h =
       let o = mapped-ordinary s words page f (mapped_to s words page) refl h in
       let g = first-at (names words page) s.uncached (length words - s.uncached) f (sym (ordinary-search o) ∙ h) in
@@ -110,20 +109,20 @@ module _ (s : Shape) (words : List ℕ) (page : ℕ) where
       record { ordinary = o; from = g.from; inside = omega arith; names = g.passes; page_is = n.0; odd = n.1 }
 
   -- no frame from U up names an ordinary page that is not mapped
-  pub mapped-nothing : ordinary_page page ≡ true → mapped_to s words page ≡ Nothing
+  pub mapped-nothing : ordinary_page page ≡ true → mapped_to s words page ≡ None
       → (g : ℕ) → s.uncached ≤ g → g < length words → names_page (get_or words g 0) page ≡ false
   mapped-nothing o h g a b = first-nothing (names words page) s.uncached (length words - s.uncached) g (sym (ordinary-search o) ∙ h) a (omega arith)
 
 -- what is found, by the test of rows 8 and 11
-pub found_at : (found : Found) → not (is_mapped found) ≡ false → found ≡ At (found_frame found)
+pub found_at : (found : Option ℕ) → not (is_mapped found) ≡ false → found ≡ Some (found_frame found)
 unfolding is_mapped found_frame
-found_at (At f) h = refl
-found_at Nothing h = clash true refl h
+found_at (Some f) h = refl
+found_at None h = clash true refl h
 
-pub found_nothing : (found : Found) → is_mapped found ≡ false → found ≡ Nothing
+pub found_nothing : (found : Option ℕ) → is_mapped found ≡ false → found ≡ None
 unfolding is_mapped
-found_nothing (At f) h = clash true refl h
-found_nothing Nothing h = refl
+found_nothing (Some f) h = clash true refl h
+found_nothing None h = refl
 
 -- the frame of a page after the word of a frame is changed
 module _ (s : Shape) (words : List ℕ) (page f w : ℕ) (b : f < length words) where
@@ -142,7 +141,7 @@ module _ (s : Shape) (words : List ℕ) (page f w : ℕ) (b : f < length words) 
       (sym (mapped-search s words page))
 
   -- the word of the page's frame, which still names it
-  pub mapped-hit : names_page w page ≡ true → mapped_to s words page ≡ At f → mapped_to s (set words f w) page ≡ At f
+  pub mapped-hit : names_page w page ≡ true → mapped_to s words page ≡ Some f → mapped_to s (set words f w) page ≡ Some f
   mapped-hit y h =
       let o = mapped-ordinary s words page f (mapped_to s words page) refl h in
       ordinary-search s (set words f w) page o
@@ -150,27 +149,27 @@ module _ (s : Shape) (words : List ℕ) (page f w : ℕ) (b : f < length words) 
       (λ k n. rw (get_or-set_other words f k w 0 n)) s.uncached (length words - s.uncached) (sym (ordinary-search s words page o) ∙ h))
 
   -- a word that comes to name a page that had no frame
-  pub mapped-new : ordinary_page page ≡ true → s.uncached ≤ f → names_page w page ≡ true → mapped_to s words page ≡ Nothing → mapped_to s (set words f w) page ≡ At f
+  pub mapped-new : ordinary_page page ≡ true → s.uncached ≤ f → names_page w page ≡ true → mapped_to s words page ≡ None → mapped_to s (set words f w) page ≡ Some f
   mapped-new o u n h = go (mapped_to s (set words f w) page) refl
     where
-      go : (found : Found) → mapped_to s (set words f w) page ≡ found → found ≡ At f
-      go Nothing e =
+      go : (found : Option ℕ) → mapped_to s (set words f w) page ≡ found → found ≡ Some f
+      go None e =
           clash _ n (rw (get_or-set_same words f w 0 b) at (mapped-nothing s (set words f w) page o e f u (rw (length-set words f w) b)))
-      go (At g) e = here (eqb g f) refl (mapped-frame s (set words f w) page g e)
+      go (Some g) e = here (eqb g f) refl (mapped-frame s (set words f w) page g e)
         where
-          here : (t : Bool) → eqb g f ≡ t → Mapped s (set words f w) page g → At g ≡ At f
-          here true t m = ap At (eqb-true g f t)
+          here : (t : Bool) → eqb g f ≡ t → Mapped s (set words f w) page g → Some g ≡ Some f
+          here true t m = ap Some (eqb-true g f t)
           here false t m =
               clash _ (rw (get_or-set_other words f g w 0 (eqb-false g f t)) at m.names)
               (mapped-nothing s words page o h g m.from (rw (length-set words f w) at m.inside))
 
   -- a word that names a page no more, where no other frame does
-  pub mapped-lost : names_page w page ≡ false → ((g : ℕ) → Mapped s words page g → g ≡ f) → mapped_to s (set words f w) page ≡ Nothing
+  pub mapped-lost : names_page w page ≡ false → ((g : ℕ) → Mapped s words page g → g ≡ f) → mapped_to s (set words f w) page ≡ None
   mapped-lost n only = go (mapped_to s (set words f w) page) refl
     where
-      go : (found : Found) → mapped_to s (set words f w) page ≡ found → found ≡ Nothing
-      go Nothing e = refl
-      go (At g) e = absurd (here (eqb g f) refl (mapped-frame s (set words f w) page g e))
+      go : (found : Option ℕ) → mapped_to s (set words f w) page ≡ found → found ≡ None
+      go None e = refl
+      go (Some g) e = absurd (here (eqb g f) refl (mapped-frame s (set words f w) page g e))
         where
           here : (t : Bool) → eqb g f ≡ t → Mapped s (set words f w) page g → ⊥
           here true t m = let q : g ≡ f = eqb-true g f t in clash _ (rw (q, get_or-set_same words f w 0 b) at m.names) n
@@ -188,14 +187,14 @@ module _ (s : Shape) (words : List ℕ) (page f w : ℕ) (b : f < length words) 
 -- ---- the home of a name
 
 module _ (s : Shape) (words : List ℕ) (name : ℕ) where
-  pub mapped-home : (f : ℕ) → mapped_to s words (name / page_lines) ≡ At f → home_of s words name ≡ Line (f * page_lines + name % page_lines) (word_writes (get_or words f 0))
-  mapped-home f h = sym (home_at s words name (At f) (sym h) f _ refl refl)
+  pub mapped-home : (f : ℕ) → mapped_to s words (name / page_lines) ≡ Some f → home_of s words name ≡ Some (at_line (f * page_lines + name % page_lines) (word_writes (get_or words f 0)))
+  mapped-home f h = sym (home_at s words name (Some f) (sym h) f _ refl refl)
 
   -- an ordinary page that is not mapped
-  pub unmapped-home : ordinary_page (name / page_lines) ≡ true → mapped_to s words (name / page_lines) ≡ Nothing → home_of s words name ≡ Nowhere
+  pub unmapped-home : ordinary_page (name / page_lines) ≡ true → mapped_to s words (name / page_lines) ≡ None → home_of s words name ≡ None
   unmapped-home o h =
       let l = ordinary-low (name / page_lines) o in
-      sym (home-direct s words name Nothing (sym h) Nowhere refl (direct-other s words name (omega arith)))
+      sym (home-direct s words name None (sym h) None refl (direct-other s words name (omega arith)))
 
 -- what a home says: the name is its physical line under prefix 1, of a free frame, or the word of a frame names the page
 pub data Homed (s : Shape) (words : List ℕ) (n p : ℕ) (w : Bool) : Type 0 where
@@ -204,7 +203,7 @@ pub data Homed (s : Shape) (words : List ℕ) (n p : ℕ) (w : Bool) : Type 0 wh
       → get_or words (p / page_lines) 0 / 4 ≡ n / page_lines → get_or words (p / page_lines) 0 % 2 ≡ 1 → w ≡ word_writes (get_or words (p / page_lines) 0) → Homed s words n p w
 
 module _ (s : Shape) (words : List ℕ) (n p : ℕ) (w : Bool) where
-  homed-direct : direct_home s words n ≡ Line p w → Homed s words n p w
+  homed-direct : direct_home s words n ≡ Some (at_line p w) → Homed s words n p w
   unfolding direct_home free_frame
   homed-direct h =
       let z = if-line _ (n % prefix_lines) p w h in
@@ -217,17 +216,17 @@ module _ (s : Shape) (words : List ℕ) (n p : ℕ) (w : Bool) where
       let e : n % prefix_lines ≡ p = z.1.0 in
       direct (omega arith) (omega arith) (rw e at low) (rw e at high) (rw e at free) z.1.1
 
-  homed-by : (found : Found) → mapped_to s words (n / page_lines) ≡ found → home_by s words n found ≡ Line p w → Homed s words n p w
+  homed-by : (found : Option ℕ) → mapped_to s words (n / page_lines) ≡ found → home_by s words n found ≡ Some (at_line p w) → Homed s words n p w
   unfolding home_by
-  homed-by (At f) e h =
+  homed-by (Some f) e h =
       let a = mapped-frame s words (n / page_lines) f e in
       let q : f * page_lines + n % page_lines ≡ p = cc in
       let r : word_writes (get_or words f 0) ≡ w = cc in
       let k : p / page_lines ≡ f = omega arith in
       mapped a.ordinary (omega arith) (rw k a.from) (rw k a.inside) (rw k a.page_is) (rw k a.odd) (rw k (sym r))
-  homed-by Nothing e h = homed-direct h
+  homed-by None e h = homed-direct h
 
-  pub homed : home_of s words n ≡ Line p w → Homed s words n p w
+  pub homed : home_of s words n ≡ Some (at_line p w) → Homed s words n p w
   unfolding home_of
   homed h = homed-by (mapped_to s words (n / page_lines)) refl h
 
@@ -243,7 +242,7 @@ homed-above s words n p w (direct a b c d e f) = c
 homed-above s words n p w (mapped a b c d e f h) = c
 
 -- a home lies in the frames from U up
-pub home-above : (s : Shape) (words : List ℕ) (n p : ℕ) (w : Bool) → home_of s words n ≡ Line p w → s.uncached ≤ p / page_lines
+pub home-above : (s : Shape) (words : List ℕ) (n p : ℕ) (w : Bool) → home_of s words n ≡ Some (at_line p w) → s.uncached ≤ p / page_lines
 home-above s words n p w h = homed-above s words n p w (homed s words n p w h)
 
 pub homes-map : (s : Shape) (words : List ℕ) → length words ≡ s.frames → Homes s (home_of s words)
@@ -254,26 +253,26 @@ homes-map s words z = record {
 
 -- ---- the home of a name after the word of a frame is changed
 
-module _ (s : Shape) (words : List ℕ) (f w name p : ℕ) (x : Bool) (b : f < length words) (h : home_of s words name ≡ Line p x) where
-  home-by-set : (found : Found) → home_by s words name found ≡ Line p x → p / page_lines ≢ f → home_by s (set words f w) name found ≡ Line p x
+module _ (s : Shape) (words : List ℕ) (f w name p : ℕ) (x : Bool) (b : f < length words) (h : home_of s words name ≡ Some (at_line p x)) where
+  home-by-set : (found : Option ℕ) → home_by s words name found ≡ Some (at_line p x) → p / page_lines ≢ f → home_by s (set words f w) name found ≡ Some (at_line p x)
   unfolding home_by direct_home free_frame
-  home-by-set (At g) e n =
+  home-by-set (Some g) e n =
       let a : g * page_lines + name % page_lines ≡ p = cc in
       let k : g ≢ f = omega arith in
       rw (get_or-set_other words f g w 0 k) e
-  home-by-set Nothing e n =
+  home-by-set None e n =
       let a = (if-line (eqb (name / prefix_lines) 1 && free_frame s words (name % prefix_lines / page_lines)) (name % prefix_lines) p x e).1.0 in
       let k : name % prefix_lines / page_lines ≢ f = rw a n in
       rw (get_or-set_other words f (name % prefix_lines / page_lines) w 0 k) e
 
   -- a home in another frame, of a page that the word did not name and does not name now
-  pub home-set : p / page_lines ≢ f → names_page (get_or words f 0) (name / page_lines) ≡ false → names_page w (name / page_lines) ≡ false → home_of s (set words f w) name ≡ Line p x
+  pub home-set : p / page_lines ≢ f → names_page (get_or words f 0) (name / page_lines) ≡ false → names_page w (name / page_lines) ≡ false → home_of s (set words f w) name ≡ Some (at_line p x)
   unfolding home_of
   home-set n y z = rw (mapped-set s words (name / page_lines) f w b y z) (home-by-set (mapped_to s words (name / page_lines)) h n)
 
   -- a home of another page than the frame's is in another frame, and stays when the word comes to name no other page
   pub home-elsewhere : (page : ℕ) → get_or words f 0 / 4 ≡ page → get_or words f 0 % 2 ≡ 1 → name / page_lines ≢ page → (w / 4 ≡ name / page_lines → w % 2 ≡ 1 → ⊥)
-      → home_of s (set words f w) name ≡ Line p x
+      → home_of s (set words f w) name ≡ Some (at_line p x)
   home-elsewhere page here odd n y =
       home-set (λ q. go (homed s words name p x h) q) (word-names-not _ _ (λ a _. n (sym a ∙ here))) (word-names-not _ _ y)
     where

@@ -1,5 +1,6 @@
 -- The calls on the page map: map, unmap, move, protect and flush all, and accesses past the cache, keep the store standing for a flat memory.
 -- Stands on Maps, Sweeps and Leaving.
+use Rattle.std.specs.Prelude.{Some, None}
 use Prim.Native.Nat.{ℕ, ◌+◌, ◌*◌, ◌/◌, ◌%◌, ◌≤◌, ◌<◌}
 use mathlib.Core.Logic.{◌≢◌}
 use mathlib.Core.Path.{◌≡◌, refl, sym, ◌∙◌}
@@ -12,11 +13,10 @@ use lib.Seq.{get_or-set_same}
 use borrow.Author.Tests.{eqb-true, eqb-false, eq-eqb, ne_eqb}
 use Rattle.address.specs.Layout.{page_lines}
 use Rattle.address.specs.Addresses.{ordinary_page}
+use Rattle.board.specs.Homes.{at_line}
 use Rattle.board.specs.Shapes.{max_frames}
 use Rattle.pages.specs.Pages.{frame_word, mapped_to, home_of, direct_page}
 use Rattle.board.specs.declared.Shape.{Shape}
-use Rattle.board.specs.declared.Found.TheVariants.{At, Nothing}
-use Rattle.board.specs.declared.Home.TheVariants.{Line as Home}
 use Rattle.board.proofs.Bools.{clash, or-false}
 use Rattle.line_bytes.specs.Bytes.{number, digits, stored, line_of, zeroed_frame}
 use Rattle.lines.specs.Records.{line_at, no_line}
@@ -93,7 +93,7 @@ module _ (s : Shape) (words : List ℕ) (x : Store) (m : List ℕ) (sim : Sim s 
 
   -- ---- lines written back and dropped, and the word of a page's frame changed: unmap and move
 
-  module _ (page f : ℕ) (found : mapped_to s words page ≡ At f) (names : Names) (w : ℕ)
+  module _ (page f : ℕ) (found : mapped_to s words page ≡ Some f) (names : Names) (w : ℕ)
       (others : (name : ℕ) → named names name ≡ false → (name / page_lines ≢ page) × (w / 4 ≡ name / page_lines → w % 2 ≡ 1 → ⊥)) where
     -- the names are those of the page, and of the page that the new word names
     sim-reworded : Sim s (home_of s (set words f w)) (visited_all s (visit Retire names) x) m
@@ -103,7 +103,7 @@ module _ (s : Shape) (words : List ℕ) (x : Store) (m : List ℕ) (sim : Sim s 
         (λ j h n. let o = others (line j).name n in
         home-elsewhere s words f w (line j).name (line j).physical (line j).write q.inside (sim.maps j h) page q.page_is q.odd o.0 o.1)
 
-  module _ (page f : ℕ) (found : mapped_to s words page ≡ At f) where
+  module _ (page f : ℕ) (found : mapped_to s words page ≡ Some f) where
     pub sim-unmapped : Sim s (home_of s (set words f 0)) (visited_all s (unmap_visit page) x) m
     sim-unmapped =
         sim-reworded page f found (One (page_names page)) 0
@@ -117,12 +117,12 @@ module _ (s : Shape) (words : List ℕ) (x : Store) (m : List ℕ) (sim : Sim s 
 
   -- ---- protect
 
-  module _ (page f : ℕ) (write : Bool) (found : mapped_to s words page ≡ At f) where
+  module _ (page f : ℕ) (write : Bool) (found : mapped_to s words page ≡ Some f) where
     abbrev words' : List ℕ
     words' = set words f (frame_word page write)
 
     -- a line of the page is in its frame, and gets the permission there
-    relabelled : (j : ℕ) → held j ≡ true → named (One (page_names page)) (line j).name ≡ true → home_of s words' (line j).name ≡ Home (line j).physical write
+    relabelled : (j : ℕ) → held j ≡ true → named (One (page_names page)) (line j).name ≡ true → home_of s words' (line j).name ≡ Some (at_line (line j).physical write)
     relabelled j h u =
         let n : (line j).name / page_lines ≡ page = eqb-true _ _ (sym (one-page page (line j).name) ∙ u) in
         let q = mapped-frame s words page f found in
@@ -134,7 +134,7 @@ module _ (s : Shape) (words : List ℕ) (x : Store) (m : List ℕ) (sim : Sim s 
         rw p (rw (get_or-set_same words f (frame_word page write) 0 q.inside, frame-word-writes page write) at new)
 
     unlabelled : (j : ℕ) → held j ≡ true → named (One (page_names page)) (line j).name ≡ false
-        → home_of s words' (line j).name ≡ Home (line j).physical (line j).write
+        → home_of s words' (line j).name ≡ Some (at_line (line j).physical (line j).write)
     unlabelled j h u =
         let n : (line j).name / page_lines ≢ page = eqb-false _ _ (sym (one-page page (line j).name) ∙ u) in
         let q = mapped-frame s words page f found in
@@ -147,7 +147,7 @@ module _ (s : Shape) (words : List ℕ) (x : Store) (m : List ℕ) (sim : Sim s 
   -- ---- map
 
   module _ (words_are : length words ≡ s.frames) (frames_max : s.frames ≤ max_frames) (page frame : ℕ) (write : Bool) (ordinary : ordinary_page page ≡ true)
-      (inside : frame < s.frames) (free : get_or words frame 0 ≡ 0) (unmapped : mapped_to s words page ≡ Nothing) where
+      (inside : frame < s.frames) (free : get_or words frame 0 ≡ 0) (unmapped : mapped_to s words page ≡ None) where
     abbrev given : List ℕ
     given = set words frame (frame_word page write)
 
@@ -178,7 +178,7 @@ module _ (s : Shape) (words : List ℕ) (x : Store) (m : List ℕ) (sim : Sim s 
         (sym (two-pages page (direct_page frame) (line j).name) ∙ n))
 
     stays : (j : ℕ) → held j ≡ true → named gone (line j).name ≡ false
-        → (eqb ((line j).physical / page_lines) frame ≡ false) × (home_of s given (line j).name ≡ Home (line j).physical (line j).write)
+        → (eqb ((line j).physical / page_lines) frame ≡ false) × (home_of s given (line j).name ≡ Some (at_line (line j).physical (line j).write))
     stays j h n =
         let o = or-false (eqb ((line j).name / page_lines) page) (eqb ((line j).name / page_lines) (direct_page frame))
         (sym (two-pages page (direct_page frame) (line j).name) ∙ n) in

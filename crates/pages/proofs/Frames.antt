@@ -1,4 +1,5 @@
 -- The search over the frame words, and where a page and a line name lead.
+use Rattle.std.specs.Prelude.{Option, Some, None}
 use Prim.Native.Nat.{ℕ, zero, suc, ◌+◌, ◌*◌, ◌-◌, ◌/◌, ◌%◌, ◌^◌, ◌<◌, ◌≤◌}
 use mathlib.Core.Bool.{Bool, true, false, not, ◌&&◌, cond}
 use mathlib.Core.Path.{◌≡◌, ◌∙◌, sym, refl, ap}
@@ -16,19 +17,18 @@ use Rattle.address.specs.declared.Global.{Global}
 use Rattle.address.specs.declared.Physical.{Physical}
 use Rattle.pages.specs.Pages.{names_page, word_writes, lowest_from, lowest_frame, mapped_to, free_frame, direct_frame, direct_home, line_in, home_by, home_of}
 use Rattle.pages.specs.Scans.{NoneOf}
+use Rattle.board.specs.Homes.{at_line}
+use Rattle.board.proofs.Homes.{home-parts}
 use Rattle.board.specs.declared.Shape.{Shape}
-use Rattle.board.specs.declared.Found.{Found}
-use Rattle.board.specs.declared.Found.TheVariants.{At, Nothing}
 use Rattle.board.specs.declared.Home.{Home}
-use Rattle.board.specs.declared.Home.TheVariants.{Line, Nowhere}
 use Rattle.board.proofs.Bools.{and_left, and_right}
 
 module _ (ws : List ℕ) (f page : ℕ) where
-  pub low-1 : f < length ws → get_or ws f 0 ≡ page * 4 + 1 → lowest_from (drop f ws) f page ≡ At f
+  pub low-1 : f < length ws → get_or ws f 0 ≡ page * 4 + 1 → lowest_from (drop f ws) f page ≡ Some f
   unfolding lowest_from
   low-1 h e = rw (drop-cons ws f 0) (simp (eq-eqb _ _ e))
 
-  pub low-3 : f < length ws → (get_or ws f 0 ≡ page * 4 + 1 → ⊥) → get_or ws f 0 ≡ page * 4 + 3 → lowest_from (drop f ws) f page ≡ At f
+  pub low-3 : f < length ws → (get_or ws f 0 ≡ page * 4 + 1 → ⊥) → get_or ws f 0 ≡ page * 4 + 3 → lowest_from (drop f ws) f page ≡ Some f
   unfolding lowest_from
   low-3 h n e = rw (drop-cons ws f 0) (simp (ne_eqb _ _ n, eq-eqb _ _ e))
 
@@ -37,11 +37,11 @@ module _ (ws : List ℕ) (f page : ℕ) where
   unfolding lowest_from
   low-next h n m = rw (add-one, drop-cons ws f 0) (simp (ne_eqb _ _ n, ne_eqb _ _ m))
 
-  pub low_end : length ws ≤ f → lowest_from (drop f ws) f page ≡ Nothing
+  pub low_end : length ws ≤ f → lowest_from (drop f ws) f page ≡ None
   unfolding lowest_from
   low_end h = rw drop_of_length-le
 
-  pub low-beyond : length ws < f → Nothing ≡ lowest_frame ws f page
+  pub low-beyond : length ws < f → None ≡ lowest_frame ws f page
   unfolding lowest_frame
   low-beyond h = sym (low_end (omega arith))
 
@@ -95,17 +95,17 @@ module _ (ws : List ℕ) (page f : ℕ) where
       go true h = ol (and_left low _ e) k from (ltb-true k (f + 4) h)
       go false h = oh (and_right low _ e) k (ltb-false k (f + 4) h) (omega arith)
 
-either : (b : Bool) (f g n : ℕ) (rest : Found) → cond b (At f) rest ≡ At g → (rest ≡ At g → (suc f ≤ g) × (g < suc f + n)) → (f ≤ g) × (g < f + suc n)
+either : (b : Bool) (f g n : ℕ) (rest : Option ℕ) → cond b (Some f) rest ≡ Some g → (rest ≡ Some g → (suc f ≤ g) × (g < suc f + n)) → (f ≤ g) × (g < f + suc n)
 either true f g n rest e r = let z : f ≡ g = cc in omega arith
 either false f g n rest e r = let z = r e in omega arith
 
-low-inside : (ws : List ℕ) (f page g : ℕ) → lowest_from ws f page ≡ At g → (f ≤ g) × (g < f + length ws)
+low-inside : (ws : List ℕ) (f page g : ℕ) → lowest_from ws f page ≡ Some g → (f ≤ g) × (g < f + length ws)
 unfolding lowest_from
 low-inside [] f page g e = let z : ◌≡◌ {A = ℕ} 0 1 = cc in omega arith
 low-inside (w ∷ ws) f page g e = either (names_page w page) f g (length ws) (lowest_from ws (suc f) page) e (low-inside ws (suc f) page g)
 
 -- what is mapped is ordinary, and found by the search
-if-at : (t : Bool) (found : Found) (f : ℕ) → cond t found Nothing ≡ At f → (t ≡ true) × (found ≡ At f)
+if-at : (t : Bool) (found : Option ℕ) (f : ℕ) → cond t found None ≡ Some f → (t ≡ true) × (found ≡ Some f)
 if-at true found f e = (refl, e)
 if-at false found f e = absurd (let z : ◌≡◌ {A = ℕ} 0 1 = cc in omega arith)
 
@@ -113,16 +113,16 @@ pub ordinary-below : (page : ℕ) (t : Bool) → t ≡ ordinary_page page → t 
 ordinary-below page t e h = omega (arith, leb-true page last_page (and_right (leb first_page page) _ (sym e ∙ h)))
 
 module _ (s : Shape) (words : List ℕ) (page : ℕ) (t : Bool) (e : t ≡ ordinary_page page) where
-  pub mapped-some : (found : Found) → t ≡ true → found ≡ lowest_frame words s.uncached page → found ≡ mapped_to s words page
+  pub mapped-some : (found : Option ℕ) → t ≡ true → found ≡ lowest_frame words s.uncached page → found ≡ mapped_to s words page
   unfolding mapped_to
   mapped-some found h k = rw (← e, h, k)
 
-  pub mapped-none : t ≡ false → Nothing ≡ mapped_to s words page
+  pub mapped-none : t ≡ false → None ≡ mapped_to s words page
   unfolding mapped_to
   mapped-none h = rw (← e, h)
 
-module _ (s : Shape) (words : List ℕ) (page f : ℕ) (found : Found) (e : found ≡ mapped_to s words page) (k : found ≡ At f) where
-  mapped : (ordinary_page page ≡ true) × (lowest_frame words s.uncached page ≡ At f)
+module _ (s : Shape) (words : List ℕ) (page f : ℕ) (found : Option ℕ) (e : found ≡ mapped_to s words page) (k : found ≡ Some f) where
+  mapped : (ordinary_page page ≡ true) × (lowest_frame words s.uncached page ≡ Some f)
   unfolding mapped_to
   mapped = if-at (ordinary_page page) (lowest_frame words s.uncached page) f (sym e ∙ k)
 
@@ -141,29 +141,29 @@ module _ (s : Shape) (words : List ℕ) (page f : ℕ) (found : Found) (e : foun
 
 module _ (s : Shape) (words : List ℕ) (name : ℕ) where
   pub direct-some : (t : Bool) → t ≡ free_frame s words (direct_frame name) → name / prefix_lines ≡ 1 → t ≡ true
-      → Line (name % prefix_lines) true ≡ direct_home s words name
+      → Some (at_line (name % prefix_lines) true) ≡ direct_home s words name
   unfolding direct_home
   direct-some t e p h = rw (eq-eqb _ _ p, ← e, h)
 
-  pub direct-used : (t : Bool) → t ≡ free_frame s words (direct_frame name) → name / prefix_lines ≡ 1 → t ≡ false → Nowhere ≡ direct_home s words name
+  pub direct-used : (t : Bool) → t ≡ free_frame s words (direct_frame name) → name / prefix_lines ≡ 1 → t ≡ false → None ≡ direct_home s words name
   unfolding direct_home
   direct-used t e p h = rw (eq-eqb _ _ p, ← e, h)
 
-  pub direct-other : (name / prefix_lines ≡ 1 → ⊥) → Nowhere ≡ direct_home s words name
+  pub direct-other : (name / prefix_lines ≡ 1 → ⊥) → None ≡ direct_home s words name
   unfolding direct_home
   direct-other p = rw (ne_eqb _ _ p)
 
-  module _ (found : Found) (e : found ≡ mapped_to s words (page_of_name name)) where
+  module _ (found : Option ℕ) (e : found ≡ mapped_to s words (page_of_name name)) where
     home_by_lem : home_by s words name found ≡ home_of s words name
     unfolding home_of
     home_by_lem = rw e
 
-    pub home_at : (f : ℕ) (write : Bool) → found ≡ At f → write ≡ word_writes (get_or words f 0)
-        → Line (f * page_lines + name % page_lines) write ≡ home_of s words name
+    pub home_at : (f : ℕ) (write : Bool) → found ≡ Some f → write ≡ word_writes (get_or words f 0)
+        → Some (at_line (f * page_lines + name % page_lines) write) ≡ home_of s words name
     unfolding home_by
-    home_at f write k w = ap (Line (f * page_lines + name % page_lines)) w ∙ ap (home_by s words name) (sym k) ∙ home_by_lem
+    home_at f write k w = ap (λ (x : Bool). Some (at_line (f * page_lines + name % page_lines) x)) w ∙ ap (home_by s words name) (sym k) ∙ home_by_lem
 
-    pub home-direct : (home : Home) → found ≡ Nothing → home ≡ direct_home s words name → home ≡ home_of s words name
+    pub home-direct : (home : Option Home) → found ≡ None → home ≡ direct_home s words name → home ≡ home_of s words name
     unfolding home_by
     home-direct home k d = d ∙ ap (home_by s words name) (sym k) ∙ home_by_lem
 
@@ -192,35 +192,35 @@ module _ (s : Shape) (words : List ℕ) (g : Global) where
       free : t ≡ free_frame s words (direct_frame (name_of g))
       free = k ∙ ap (free_frame s words) (i ∙ ap frame_of_physical h ∙ sym (name-frame g))
 
-      pub address-direct-free : (line : ℕ) → line ≡ physical_line_of p → t ≡ true → Line line true ≡ direct_home s words (name_of g)
+      pub address-direct-free : (line : ℕ) → line ≡ physical_line_of p → t ≡ true → Some (at_line line true) ≡ direct_home s words (name_of g)
       address-direct-free line l m =
-          ap (λ (x : ℕ). Line x true) (l ∙ ap physical_line_of h ∙ sym (name-line g)) ∙ direct-some s words (name_of g) t free (name-prefix g ∙ sym e ∙ one) m
+          ap (λ (x : ℕ). Some (at_line x true)) (l ∙ ap physical_line_of h ∙ sym (name-line g)) ∙ direct-some s words (name_of g) t free (name-prefix g ∙ sym e ∙ one) m
 
-      pub address-direct-used : t ≡ false → Nowhere ≡ direct_home s words (name_of g)
+      pub address-direct-used : t ≡ false → None ≡ direct_home s words (name_of g)
       address-direct-used = direct-used s words (name_of g) t free (name-prefix g ∙ sym e ∙ one)
 
-    pub address-direct-other : (q ≡ 1 → ⊥) → Nowhere ≡ direct_home s words (name_of g)
+    pub address-direct-other : (q ≡ 1 → ⊥) → None ≡ direct_home s words (name_of g)
     address-direct-other n = direct-other s words (name_of g) (λ z. n (e ∙ sym (name-prefix g) ∙ z))
 
-  module _ (page : ℕ) (found : Found) (o : page ≡ page_of g) (e : found ≡ mapped_to s words page) where
+  module _ (page : ℕ) (found : Option ℕ) (o : page ≡ page_of g) (e : found ≡ mapped_to s words page) where
     mapped-name : found ≡ mapped_to s words (page_of_name (name_of g))
     mapped-name = e ∙ ap (mapped_to s words) (o ∙ sym (name-page g))
 
-    pub address-home-at : (f : ℕ) (p : Physical) (line : ℕ) (write : Bool) → found ≡ At f → p ≡ in_frame f g → line ≡ physical_line_of p
-        → write ≡ word_writes (get_or words f 0) → Line line write ≡ home_of s words (name_of g)
+    pub address-home-at : (f : ℕ) (p : Physical) (line : ℕ) (write : Bool) → found ≡ Some f → p ≡ in_frame f g → line ≡ physical_line_of p
+        → write ≡ word_writes (get_or words f 0) → Some (at_line line write) ≡ home_of s words (name_of g)
     address-home-at f p line write k h l w =
-        ap (λ (x : ℕ). Line x write) (l ∙ ap physical_line_of h ∙ line_in_frame g f) ∙ home_at s words (name_of g) found mapped-name f write k w
+        ap (λ (x : ℕ). Some (at_line x write)) (l ∙ ap physical_line_of h ∙ line_in_frame g f) ∙ home_at s words (name_of g) found mapped-name f write k w
 
-    pub address-home-direct : (home : Home) → found ≡ Nothing → home ≡ direct_home s words (name_of g) → home ≡ home_of s words (name_of g)
+    pub address-home-direct : (home : Option Home) → found ≡ None → home ≡ direct_home s words (name_of g) → home ≡ home_of s words (name_of g)
     address-home-direct = home-direct s words (name_of g) found mapped-name
 
 -- a line under a test is that line, and the test passed
-pub if-line : (t : Bool) (m line : ℕ) (write : Bool) → cond t (Line m true) Nowhere ≡ Line line write → (t ≡ true) × ((m ≡ line) × (write ≡ true))
-if-line true m line write e = (refl, (cc, cc))
+pub if-line : (t : Bool) (m line : ℕ) (write : Bool) → cond t (Some (at_line m true)) None ≡ Some (at_line line write) → (t ≡ true) × ((m ≡ line) × (write ≡ true))
+if-line true m line write e = let z = home-parts e in (refl, (z.0, sym z.1))
 if-line false m line write e = absurd (let z : ◌≡◌ {A = ℕ} 0 1 = cc in omega arith)
 
 module _ (s : Shape) (words : List ℕ) (name line : ℕ) (write : Bool) where
-  direct-inside : direct_home s words name ≡ Line line write → line < 256 * s.frames
+  direct-inside : direct_home s words name ≡ Some (at_line line write) → line < 256 * s.frames
   unfolding direct_home free_frame
   direct-inside e =
       let z = if-line (eqb (name / prefix_lines) 1 && free_frame s words (direct_frame name)) (name % prefix_lines) line write e in
@@ -229,12 +229,12 @@ module _ (s : Shape) (words : List ℕ) (name line : ℕ) (write : Bool) where
       let d = ltb-true (direct_frame name) s.frames (and_left (ltb (direct_frame name) s.frames) _ b) in
       omega (arith, d, z.1.0)
 
-  by-inside : (found : Found) → ((f : ℕ) → found ≡ At f → f < s.frames) → home_by s words name found ≡ Line line write → line < 256 * s.frames
+  by-inside : (found : Option ℕ) → ((f : ℕ) → found ≡ Some f → f < s.frames) → home_by s words name found ≡ Some (at_line line write) → line < 256 * s.frames
   unfolding home_by
-  by-inside (At f) at e = let z : f * 256 + name % 256 ≡ line = cc in omega (arith, at f refl)
-  by-inside Nothing at e = direct-inside e
+  by-inside (Some f) at e = let z = home-parts e in omega (arith, z.0, at f refl)
+  by-inside None at e = direct-inside e
 
-pub home-inside : (s : Shape) (words : List ℕ) (name line : ℕ) (write : Bool) (home : Home) → home ≡ home_of s words name → home ≡ Line line write
+pub home-inside : (s : Shape) (words : List ℕ) (name line : ℕ) (write : Bool) (home : Option Home) → home ≡ home_of s words name → home ≡ Some (at_line line write)
     → length words ≡ s.frames → line < 256 * s.frames
 unfolding home_of
 home-inside s words name line write home e k n =

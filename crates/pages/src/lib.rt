@@ -8,7 +8,7 @@ ghost use Rattle.pages.specs.Scans.{NoneOf};
 ghost use Rattle.pages.specs.Pages.{frame_word, word_writes, lowest_frame, mapped_to, free_frame, direct_home, home_of};
 
 use address::{Global, PAGE_END, ordinary_page};
-use board::{Found, Home, Shape};
+use board::{Home, Shape};
 
 // The word of a frame that a page is mapped to.
 pub fn frame_word(page: u64, write: bool) -> u64
@@ -60,12 +60,12 @@ fn clear_of(words: &[u64], f: usize, page: u64) -> bool
 }
 
 // The lowest frame from `u` up whose word names the page: others are passed eight at a time, then one by one.
-fn lowest_frame(words: &[u64], u: usize, page: u64) -> Found
+fn lowest_frame(words: &[u64], u: usize, page: u64) -> Option<usize>
     requires { page < 2 ^ 32 }
     ensures { result ≡ lowest_frame words.now u page }
 {
     if words.len() < u {
-        return Found::Nothing;
+        return None;
     }
     let mut f = u;
     while clear_of(words, f, page) {
@@ -74,25 +74,25 @@ fn lowest_frame(words: &[u64], u: usize, page: u64) -> Found
     while f < words.len() {
         let w = words[f];
         if w == page * 4 + 1 {
-            return Found::At(f);
+            return Some(f);
         }
         if w == page * 4 + 3 {
-            return Found::At(f);
+            return Some(f);
         }
         f += 1;
     }
-    Found::Nothing
+    None
 }
 
 // The frame that a page is mapped to.
-pub fn mapped_to(s: Shape, words: &[u64], page: u64) -> Found
+pub fn mapped_to(s: Shape, words: &[u64], page: u64) -> Option<usize>
     ensures { result ≡ mapped_to s words.now page }
 {
     let u = s.uncached;
     if ordinary_page(page) {
         return lowest_frame(words, u, page);
     }
-    Found::Nothing
+    None
 }
 
 // A frame from U up whose word is 0.
@@ -110,29 +110,35 @@ fn free_frame(s: Shape, words: &[u64], frame: usize) -> bool
 }
 
 // The physical line of an address under prefix 1.
-fn direct_home(s: Shape, words: &[u64], g: Global) -> Home
+fn direct_home(s: Shape, words: &[u64], g: Global) -> Option<Home>
     requires { length words.now ≡ s.frames }
     ensures { result ≡ direct_home s words.now (name_of g) }
 {
     if g.prefix() == 1 {
         let p = g.physical();
         if free_frame(s, words, p.frame()) {
-            return Home::Line(p.line(), true);
+            return Some(Home {
+                line: p.line(),
+                write: true,
+            });
         }
     }
-    Home::Nowhere
+    None
 }
 
 // The physical line that an address maps to.
-pub fn home_of(s: Shape, words: &[u64], g: Global) -> Home
+pub fn home_of(s: Shape, words: &[u64], g: Global) -> Option<Home>
     requires { (length words.now ≡ s.frames) × (s.frames ≤ max_frames) }
     ensures { result ≡ home_of s words.now (name_of g) }
 {
     match mapped_to(s, words, g.page()) {
-        Found::At(f) => {
+        Some(f) => {
             let w = words[f];
-            Home::Line(g.in_frame(f).line(), word_writes(w))
+            Some(Home {
+                line: g.in_frame(f).line(),
+                write: word_writes(w),
+            })
         }
-        Found::Nothing => direct_home(s, words, g),
+        None => direct_home(s, words, g),
     }
 }

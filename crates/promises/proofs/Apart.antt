@@ -1,4 +1,5 @@
 -- Demand 3 on the plain machine: what one process gets does not depend on the accesses of the others. Stands on Views and Runs.
+use Rattle.std.specs.Prelude.{Some}
 use Prim.Native.Nat.{ℕ, ◌/◌, ◌<◌}
 use mathlib.Core.Path.{◌≡◌, refl, sym, ◌∙◌}
 use mathlib.Core.Bool.{Bool, true, false, cond}
@@ -10,7 +11,6 @@ use Rattle.address.specs.Layout.{page_lines}
 use Rattle.address.specs.declared.Effective.{Effective}
 use Rattle.pages.specs.Pages.{mapped_to}
 use Rattle.board.specs.declared.Shape.{Shape}
-use Rattle.board.specs.declared.Found.TheVariants.{At}
 use Rattle.stores.specs.declared.Access.{Access}
 use Rattle.promises.specs.Plain.{Plain, plain_look}
 use Rattle.promises.specs.Runs.{ran, some_moment, Call, user, supervisor, plain_step, plain_next, plain_after}
@@ -32,7 +32,7 @@ pub record PlainSame (s : Shape) (p : Plain) (ks ls : List Call) (process : ℕ)
   pub same_replies : plain_replies_to process s p ks ≡ plain_replies_to process s p ls
   pub same_words : (plain_after s p ks).words ≡ (plain_after s p ls).words
   pub same_bytes : (page frame line : ℕ) → plain_ever (λ slots. holds slots process (segment_of_page page)) s p ks ≡ true
-      → mapped_to s (plain_after s p ks).words page ≡ At frame → line / page_lines ≡ frame
+      → mapped_to s (plain_after s p ks).words page ≡ Some frame → line / page_lines ≡ frame
       → plain_look s (plain_after s p ks) line ≡ plain_look s (plain_after s p ls) line
 
 -- what `handed_lines` is on the plain machine

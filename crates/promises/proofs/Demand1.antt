@@ -1,5 +1,6 @@
 -- Demand 1, from one law of rising tables: the first row that applies is the lowest, and what a table gives is
 -- either the refusal of that row or, where no row applies, what is done. Stands on the laws of `machine` only.
+use Rattle.std.specs.Prelude.{Some, None, Option}
 use Prim.Native.Nat.{ℕ, zero, suc, ◌%◌, ◌≤◌}
 use mathlib.Core.Path.{◌≡◌, refl, subst}
 use mathlib.Core.Bool.{Bool, true, false, not, ◌&&◌, ◌||◌, cond}
@@ -15,7 +16,6 @@ use Rattle.address.specs.declared.Global.{Global}
 use Rattle.address.specs.declared.Physical.{Physical}
 use Rattle.address.specs.declared.Region.{Region}
 use Rattle.address.specs.declared.Region.TheVariants.{Uncached, Cached, PageTable, Ordinary}
-use Rattle.address.specs.declared.Entry.TheVariants.{At, Refused}
 use Rattle.board.specs.declared.Shape.{Shape}
 use Rattle.board.specs.declared.Answer.{Answer}
 use Rattle.board.proofs.Bools.{clash, and_left, and_right, or_right, cond_both}
@@ -24,7 +24,7 @@ use Rattle.stores.specs.Stores.{Store}
 use Rattle.reach.specs.Reach.{unreached}
 use Rattle.stores.specs.declared.Access.{Access}
 use Rattle.reach.specs.declared.Way.{Way}
-use Rattle.reach.specs.declared.Way.TheVariants.{Held, InMemory, Missing}
+use Rattle.reach.specs.declared.Way.TheVariants.{Held, InMemory}
 use Rattle.machine.specs.Boards.{Board, Outcome, refused}
 use Rattle.machine.specs.Refusals.{Row, by_table, entry_table, outside, word_in_use, is_ordinary, is_cached}
 use Rattle.machine.specs.Accesses.{Reached, accessed_by, accessed, performed_on, way_to, victim_for, user_global, user_table, user_access, frame_under, supervisor_table, memory_access, supervisor_done, supervisor_access}
@@ -143,11 +143,11 @@ module _ (b : Board) (rows : List Row) (d : Outcome) (zero : Passed rows → d.a
 
 -- an access to a line that is reached
 module _ (s : Shape) (words : List ℕ) (g : Global) (a : Access) (b : Store) (uses : Uses) where
-  accessed-by-zero : (to name offset : ℕ) (way : Way) → unreached way ≡ false → (accessed_by s to name offset a b way).answer.number ≡ 0
+  accessed-by-zero : (to name offset : ℕ) (way : Option Way) → unreached way ≡ false → (accessed_by s to name offset a b way).answer.number ≡ 0
   unfolding accessed_by performed_on unreached
-  accessed-by-zero to name offset (Held i write) h = refl
-  accessed-by-zero to name offset (InMemory line write) h = refl
-  accessed-by-zero to name offset Missing h = clash true refl h
+  accessed-by-zero to name offset (Some (Held i write)) h = refl
+  accessed-by-zero to name offset (Some (InMemory line write)) h = refl
+  accessed-by-zero to name offset None h = clash true refl h
 
   accessed-zero : unreached (way_to s words b.records g) ≡ false → (accessed s words g a b uses).reached.answer.number ≡ 0
   unfolding accessed
@@ -234,12 +234,12 @@ told-list s b accesses answers =
     record { number_is_lowest = t.number_is_lowest; nothing_changed = t.nothing_changed }
 
 -- the number of an entry is its table's, and a refused one has value 0
-entry-by : (t : Bool) (g : Global) → cond (not t) 2 0 ≡ entry_number (cond t (At g) Refused)
+entry-by : (t : Bool) (g : Global) → cond (not t) 2 0 ≡ entry_number (cond t (Some g) None)
 unfolding entry_number
 entry-by true g = refl
 entry-by false g = refl
 
-entry-nothing : (t : Bool) (g : Global) → (entry_number (cond t (At g) Refused) ≡ 0 → ⊥) → entry_value (cond t (At g) Refused) ≡ 0
+entry-nothing : (t : Bool) (g : Global) → (entry_number (cond t (Some g) None) ≡ 0 → ⊥) → entry_value (cond t (Some g) None) ≡ 0
 unfolding entry_number entry_value
 entry-nothing true g h = absurd (h refl)
 entry-nothing false g h = refl

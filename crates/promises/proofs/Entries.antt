@@ -1,4 +1,5 @@
 -- CR 5: which pages are never translated, and where entries stand. By arithmetic.
+use Rattle.std.specs.Prelude.{None, Some}
 use Prim.Native.Nat.{ℕ, ◌/◌, ◌<◌, ◌≤◌}
 use mathlib.Core.Path.{◌≡◌, refl, sym}
 use mathlib.Core.Bool.{Bool, true, false}
@@ -13,11 +14,9 @@ use Rattle.address.specs.declared.Effective.{Effective}
 use Rattle.address.specs.declared.Global.{Global}
 use Rattle.address.specs.declared.Region.{Region}
 use Rattle.address.specs.declared.Region.TheVariants.{PageTable}
-use Rattle.address.specs.declared.Entry.TheVariants.{At}
 use Rattle.address.proofs.Regions.{region-table}
 use Rattle.address.proofs.Entries.{asked_is}
 use Rattle.board.specs.declared.Shape.{Shape}
-use Rattle.board.specs.declared.Found.TheVariants.{Nothing}
 use Rattle.board.proofs.Bools.{and_left}
 use Rattle.pages.specs.Pages.{mapped_to}
 use Rattle.stores.specs.declared.Access.{Access}
@@ -32,7 +31,7 @@ prefixes-by : (g : Global) (t : Bool) → ltb (prefix_of g) 2 ≡ t → ltb (pag
 prefixes-by g true e = let p = ltb-true (prefix_of g) 2 e in lt-ltb (page_of g) first_page (omega (arith, p))
 prefixes-by g false e = let p = ltb-false (prefix_of g) 2 e in le-ltb (page_of g) first_page (omega (arith, p))
 
-unmapped : (s : Shape) (words : List ℕ) (page : ℕ) → page < first_page → mapped_to s words page ≡ Nothing
+unmapped : (s : Shape) (words : List ℕ) (page : ℕ) → page < first_page → mapped_to s words page ≡ None
 unfolding mapped_to
 unmapped s words page h = rw (lt-leb first_page page h)
 
@@ -48,7 +47,7 @@ never-translated = record {
   never_reached = unreached;
 }
 
-in-region : (page : ℕ) (g : Global) → asked_entry page ≡ At g → region_of g ≡ PageTable
+in-region : (page : ℕ) (g : Global) → asked_entry page ≡ Some g → region_of g ≡ PageTable
 in-region page g k =
     let i = asked_is page g (sym k) in
     let d : g.0 / table_bytes ≡ table_index = omega (arith, i.0, i.1) in
@@ -64,7 +63,7 @@ row-12 s b a g e =
     row-later _ _ 12 (row-later _ _ 12 (row-later _ _ 12 (row-later _ _ 12 (row-later _ _ 12 (row-later _ _ 12
     (row_here (row 12 (outside s (frame_under g) (region_of g))) [] (outside-table s (frame_under g) (region_of g) e)))))))
 
-apart : (p q : ℕ) (g : Global) → asked_entry p ≡ At g → asked_entry q ≡ At g → p ≡ q
+apart : (p q : ℕ) (g : Global) → asked_entry p ≡ Some g → asked_entry q ≡ Some g → p ≡ q
 apart p q g k l =
     let i = asked_is p g (sym k) in
     let j = asked_is q g (sym l) in

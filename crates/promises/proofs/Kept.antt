@@ -1,6 +1,7 @@
 -- A value that was stored is read back whole by a load of the same width and address as the next call, on any board: after a store the line's record
 -- holds it; under prefix 0 memory has the bytes. Stands on the laws of searches and sets, Held, Steps (a write-back),
 -- Lengths and Demand1 (what a rising table gives).
+use Rattle.std.specs.Prelude.{Option, Some, None}
 use Prim.Native.Nat.{ℕ, ◌+◌, ◌*◌, ◌%◌, ◌^◌, ◌≤◌, ◌<◌}
 use mathlib.Core.Path.{◌≡◌, ◌∙◌, refl, sym, ap}
 use mathlib.Core.Bool.{Bool, true, false, not, ◌&&◌, ◌||◌}
@@ -14,11 +15,9 @@ use Rattle.address.specs.declared.Effective.{Effective}
 use Rattle.address.specs.declared.Global.{Global}
 use Rattle.address.specs.declared.Region.{Region}
 use Rattle.address.specs.declared.Region.TheVariants.{Uncached, Cached, PageTable, Ordinary}
+use Rattle.board.specs.Homes.{at_line}
 use Rattle.board.specs.declared.Shape.{Shape}
-use Rattle.board.specs.declared.Found.{Found}
-use Rattle.board.specs.declared.Found.TheVariants.{At, Nothing}
 use Rattle.board.specs.declared.Home.{Home}
-use Rattle.board.specs.declared.Home.TheVariants.{Line as HomeLine, Nowhere}
 use Rattle.board.proofs.Searches.{first-same}
 use Rattle.board.proofs.Bools.{clash, and_left, and-rest, or-false, cond_both}
 use Rattle.pages.specs.Pages.{home_of}
@@ -59,13 +58,13 @@ whole value = record { number = 0; value = value }
 
 -- the search for this name finds record i, and it has room in both lists
 pub record HeldBy (s : Shape) (name : ℕ) (x : Store) (i : ℕ) : Type 0 where
-  pub found : holder_of s x.records name ≡ At i
+  pub found : holder_of s x.records name ≡ Some i
   pub records_room : 2 * i + 2 ≤ length x.records
   pub cache_room : 16 * i + 16 ≤ length x.cache
 
 -- so the way to the line is that record
 held-way : (s : Shape) (words : List ℕ) (name : ℕ) (x : Store) (i : ℕ) → HeldBy s name x i
-    → way_of s words x.records name ≡ Held i (line_at x.records i).write
+    → way_of s words x.records name ≡ Some (Held i (line_at x.records i).write)
 unfolding way_of way_by
 held-way s words name x i h = rw h.found
 
@@ -100,24 +99,24 @@ performed-held s name off a mark i x h =
 
 -- a name that one record holds and no other is found there
 found-only : (s : Shape) (r : List ℕ) (name i : ℕ) → 0 < s.ways → holds_at s r i ≡ true → (line_at r i).name ≡ name
-    → ((j : ℕ) → holds_at s r j ≡ true → (line_at r j).name ≡ name → j ≡ i) → holder_of s r name ≡ At i
+    → ((j : ℕ) → holds_at s r j ≡ true → (line_at r j).name ≡ name → j ≡ i) → holder_of s r name ≡ Some i
 found-only s r name i w h n only = go (holder_of s r name) refl
   where
-    go : (f : Found) → holder_of s r name ≡ f → f ≡ At i
-    go (At j) e = let k = holder-some s r name j e in ap At (only j k.0 k.1)
-    go Nothing e = absurd (holder-nothing s r name i w e h n)
+    go : (f : Option ℕ) → holder_of s r name ≡ f → f ≡ Some i
+    go (Some j) e = let k = holder-some s r name j e in ap Some (only j k.0 k.1)
+    go None e = absurd (holder-nothing s r name i w e h n)
 
 -- the records of a board that fits
 module _ (s : Shape) (name : ℕ) (x : Store) (z : Sized s x.records x.cache x.memory) where
   -- the record that is found holds the line
-  pub found-held : (i : ℕ) → holder_of s x.records name ≡ At i → HeldBy s name x i
+  pub found-held : (i : ℕ) → holder_of s x.records name ≡ Some i → HeldBy s name x i
   found-held i e =
       let low = holder-inside s x.records name i (holder_of s x.records name) refl e z.lined in
       record { found = e; records_room = omega (arith, low, z.records_are); cache_room = omega (arith, low, z.cache_is) }
 
   -- and so does the victim, once it is filled from the name's home, where none held the line
-  module _ (uses : Uses) (words : List ℕ) (frames : length words ≡ s.frames) (line : ℕ) (write : Bool) (home : home_of s words name ≡ HomeLine line write)
-      (none : holder_of s x.records name ≡ Nothing) where
+  module _ (uses : Uses) (words : List ℕ) (frames : length words ≡ s.frames) (line : ℕ) (write : Bool) (home : home_of s words name ≡ Some (at_line line write))
+      (none : holder_of s x.records name ≡ None) where
     abbrev to : ℕ
     to = victim_of s uses x.records name
 
@@ -143,7 +142,7 @@ module _ (s : Shape) (name : ℕ) (x : Store) (z : Sized s x.records x.cache x.m
             let e = line-put-other x.records to (new_line name line write) j (λ q. d (sym q)) in
             absurd (holder-nothing s x.records name j ways none (sym (held-put-other s x.records to (new_line name line write) j d) ∙ h) (rw e at n))
 
-    put-found : holder_of s put name ≡ At to
+    put-found : holder_of s put name ≡ Some to
     put-found =
         found-only s put name to ways
         (held-put-same s x.records to (new_line name line write) room
@@ -182,18 +181,18 @@ module _ (s : Shape) (words : List ℕ) (g : Global) (width value v : ℕ) (fits
       record { reaches = rw w; gives = λ uses. rw w (stored_loaded s (name_of g) (g.0 % 16) width value v fits inside mark i x h _) }
 
   module _ (x : Store) (uses : Uses) (z : Sized s x.records x.cache x.memory) (frames : length words ≡ s.frames) where
-    by_home : (home : Home) → home_of s words (name_of g) ≡ home → holder_of s x.records (name_of g) ≡ Nothing → unreached (way_by_home home) ≡ false
+    by_home : (home : Option Home) → home_of s words (name_of g) ≡ home → holder_of s x.records (name_of g) ≡ None → unreached (way_by_home home) ≡ false
         → Again (accessed_by s (victim_for s uses x.records g) (name_of g) (g.0 % 16) (storing width value) x (way_by_home home))
     unfolding way_by_home accessed_by unreached
-    by_home (HomeLine line write) e n h =
-        again _ (victim_for s uses x.records g) (inserted s (victim_for s uses x.records g) (name_of g) line write x) (filled-held s (name_of g) x z uses words frames line write e n)
-    by_home Nowhere e n h = clash true refl h
+    by_home (Some hm) e n h =
+        again _ (victim_for s uses x.records g) (inserted s (victim_for s uses x.records g) (name_of g) hm.line hm.write x) (filled-held s (name_of g) x z uses words frames hm.line hm.write e n)
+    by_home None e n h = clash true refl h
 
-    by-found : (found : Found) → holder_of s x.records (name_of g) ≡ found → unreached (way_by x.records (home_of s words (name_of g)) found) ≡ false
+    by-found : (found : Option ℕ) → holder_of s x.records (name_of g) ≡ found → unreached (way_by x.records (home_of s words (name_of g)) found) ≡ false
         → Again (accessed_by s (victim_for s uses x.records g) (name_of g) (g.0 % 16) (storing width value) x (way_by x.records (home_of s words (name_of g)) found))
     unfolding way_by accessed_by
-    by-found (At i) e h = again _ i x (found-held s (name_of g) x z i e)
-    by-found Nothing e h = by_home (home_of s words (name_of g)) refl e h
+    by-found (Some i) e h = again _ i x (found-held s (name_of g) x z i e)
+    by-found None e h = by_home (home_of s words (name_of g)) refl e h
 
     accessed-again : unreached (way_to s words x.records g) ≡ false → Again (accessed s words g (storing width value) x uses).reached
     unfolding accessed way_of

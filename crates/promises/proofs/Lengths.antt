@@ -1,5 +1,6 @@
 -- Every call keeps the lengths of the lists, so numbers that fit still fit, and others still don't.
 -- Stands on the length laws of `line_bytes` and `lines`, Steps (a write-back) and Sweeps (the visits).
+use Rattle.std.specs.Prelude.{Option, Some, None}
 use Prim.Native.Nat.{ℕ}
 use mathlib.Core.Path.{◌≡◌, ◌∙◌, refl, ap}
 use mathlib.Core.Bool.{Bool}
@@ -13,8 +14,6 @@ use Rattle.address.specs.declared.Region.TheVariants.{Uncached, Cached, PageTabl
 use Rattle.board.specs.Shapes.{set_lines}
 use Rattle.board.specs.declared.Shape.{Shape}
 use Rattle.board.specs.declared.Pending.{Pending}
-use Rattle.board.specs.declared.Found.{Found}
-use Rattle.board.specs.declared.Found.TheVariants.{At, Nothing}
 use Rattle.board.proofs.Bools.{cond_both}
 use Rattle.stores.specs.Stores.{Store, store, written_back, filled, noted, inserted, performed_at, Performed}
 use Rattle.lines.specs.Victims.{Uses, used_in}
@@ -23,7 +22,7 @@ use Rattle.stores.specs.declared.Access.{Access}
 use Rattle.lines.specs.declared.Line.{Line}
 use Rattle.visits.specs.declared.Visit.{Visit}
 use Rattle.reach.specs.declared.Way.{Way}
-use Rattle.reach.specs.declared.Way.TheVariants.{Held, InMemory, Missing}
+use Rattle.reach.specs.declared.Way.TheVariants.{Held, InMemory}
 use Rattle.line_bytes.proofs.Bytes.{length-stored, length-line}
 use Rattle.lines.proofs.Records.{length-put}
 use Rattle.machine.specs.Boards.{Board, Outcome, refused, with_slots, with_tag, with_use, with_pages, no_tag, tagged, fits_board}
@@ -76,10 +75,10 @@ module _ (s : Shape) where
       let a = swept-cache s v x in
       record { records = a.records_length; cache = ap length a.cache_same; memory = a.memory_length }
 
-  sizes-loaded : (to name line : ℕ) (write : Bool) (x : Store) (found : Found) → SameSizes x (loaded_by s to name line write x found)
+  sizes-loaded : (to name line : ℕ) (write : Bool) (x : Store) (found : Option ℕ) → SameSizes x (loaded_by s to name line write x found)
   unfolding loaded_by
-  sizes-loaded to name line write x (At i) = sizes-refl x
-  sizes-loaded to name line write x Nothing = sizes-inserted to name line write x
+  sizes-loaded to name line write x (Some i) = sizes-refl x
+  sizes-loaded to name line write x None = sizes-inserted to name line write x
 
   sizes-zeroed : (frame : ℕ) (x y : Store) → SameSizes x y → SameSizes x (zeroed_store frame y)
   sizes-zeroed frame x y z = record { records = z.records; cache = z.cache; memory = length-zeroed y.memory frame ∙ z.memory }
@@ -91,12 +90,12 @@ module _ (s : Shape) where
       (record { records = length-put _ _ _; cache = length-stored _ _ _ _; memory = refl }) (sizes-refl y)
 
   module _ (a : Access) (x : Store) where
-    sizes-accessed : (to name offset : ℕ) (way : Way) → SameSizes x (accessed_by s to name offset a x way).after
+    sizes-accessed : (to name offset : ℕ) (way : Option Way) → SameSizes x (accessed_by s to name offset a x way).after
     unfolding accessed_by
-    sizes-accessed to name offset (Held i write) = sizes-performed a i offset _ x
-    sizes-accessed to name offset (InMemory line write) =
+    sizes-accessed to name offset (Some (Held i write)) = sizes-performed a i offset _ x
+    sizes-accessed to name offset (Some (InMemory line write)) =
         sizes-trans x (inserted s to name line write x) _ (sizes-inserted to name line write x) (sizes-performed a to offset _ _)
-    sizes-accessed to name offset Missing = sizes-refl x
+    sizes-accessed to name offset None = sizes-refl x
 
     sizes-memory : (p : Physical) → SameSizes x (memory_access p a x).after
     unfolding memory_access
@@ -107,16 +106,16 @@ module _ (s : Shape) where
   unfolding used_in
   length-used uses i = cond_both (λ (u : Uses). length u ≡ length uses) (eqb s.ways set_lines) _ _ (length-set uses _ _) refl
 
-  length-accessed : (to : ℕ) (uses : Uses) (way : Way) → length (uses_by s to uses way) ≡ length uses
+  length-accessed : (to : ℕ) (uses : Uses) (way : Option Way) → length (uses_by s to uses way) ≡ length uses
   unfolding uses_by
-  length-accessed to uses (Held i write) = length-used uses i
-  length-accessed to uses (InMemory line write) = length-used uses to
-  length-accessed to uses Missing = refl
+  length-accessed to uses (Some (Held i write)) = length-used uses i
+  length-accessed to uses (Some (InMemory line write)) = length-used uses to
+  length-accessed to uses None = refl
 
-  length-loaded : (to : ℕ) (uses : Uses) (found : Found) → length (loaded_uses s to uses found) ≡ length uses
+  length-loaded : (to : ℕ) (uses : Uses) (found : Option ℕ) → length (loaded_uses s to uses found) ≡ length uses
   unfolding loaded_uses
-  length-loaded to uses (At i) = refl
-  length-loaded to uses Nothing = length-used uses to
+  length-loaded to uses (Some i) = refl
+  length-loaded to uses None = length-used uses to
 
 -- a board with lists as long as another's
 pub record SameLengths (b c : Board) : Type 0 where

@@ -1,4 +1,5 @@
 -- What the marks tell. Stands on Kept (what an access leaves in its record), Places (the other records) and Demand1 (what a rising table gives).
+use Rattle.std.specs.Prelude.{Option, Some, None}
 use Prim.Native.Nat.{ℕ, ◌+◌, ◌%◌, ◌≤◌, ◌<◌}
 use mathlib.Core.Path.{◌≡◌, ◌∙◌, refl, sym, ap}
 use mathlib.Core.Bool.{Bool, true, false, ◌&&◌}
@@ -13,12 +14,10 @@ use Rattle.address.specs.declared.Global.{Global}
 use Rattle.address.specs.declared.Physical.{Physical}
 use Rattle.address.specs.declared.Region.{Region}
 use Rattle.address.specs.declared.Region.TheVariants.{Uncached, Cached, PageTable, Ordinary}
+use Rattle.board.specs.Homes.{at_line}
 use Rattle.board.specs.Answers.{mark_of}
 use Rattle.board.specs.declared.Shape.{Shape}
-use Rattle.board.specs.declared.Found.{Found}
-use Rattle.board.specs.declared.Found.TheVariants.{At, Nothing}
 use Rattle.board.specs.declared.Home.{Home}
-use Rattle.board.specs.declared.Home.TheVariants.{Line as HomeLine, Nowhere}
 use Rattle.board.proofs.Bools.{clash, and_left, and_right, cond_both}
 use Rattle.pages.specs.Pages.{home_of}
 use Rattle.lines.specs.Records.{line_at}
@@ -30,7 +29,7 @@ use Rattle.stores.specs.Stores.{Store, store, must_write_back, written_back, fil
 use Rattle.stores.specs.declared.Access.{Access}
 use Rattle.reach.specs.Reach.{way_by_home, way_by, way_of, unreached}
 use Rattle.reach.specs.declared.Way.{Way}
-use Rattle.reach.specs.declared.Way.TheVariants.{Held, InMemory, Missing}
+use Rattle.reach.specs.declared.Way.TheVariants.{Held, InMemory}
 use Rattle.machine.specs.Boards.{Board, fits_board, Outcome, refused, with_store}
 use Rattle.machine.specs.Refusals.{Row, by_table, is_ordinary, is_cached, word_in_use, outside}
 use Rattle.machine.specs.Accesses.{Reached, performed_on, accessed_by, touched, accessed, way_to, victim_for, on_board, user_global, user_table, user_access, frame_under, memory_access, supervisor_table, supervisor_done, supervisor_access}
@@ -95,7 +94,7 @@ names-kept p x y o e i = go (eqb p i) refl
     go false q = let z = o.same_records i q in rw z
 
 -- a name that the search doesn't find is not held
-not_found : (s : Shape) (x : Store) (name : ℕ) → 0 < s.ways → holder_of s x.records name ≡ Nothing → Holding s x name → ⊥
+not_found : (s : Shape) (x : Store) (name : ℕ) → 0 < s.ways → holder_of s x.records name ≡ None → Holding s x name → ⊥
 not_found s x name w e h = holder-nothing s x.records name h.at w e h.holds h.named
 
 -- one that it finds is held
@@ -115,7 +114,7 @@ module _ (s : Shape) (b : Board) (g : Global) (a : Access) (Past : Type 0) (past
   abbrev p : ℕ
   p = victim_for s b.uses x.records g
 
-  none_held : holder_of s x.records name ≡ Nothing → Holding s x name → ⊥
+  none_held : holder_of s x.records name ≡ None → Holding s x name → ⊥
   none_held = not_found s x name (ways_pos s (board-lined s b fits))
 
   -- an access to the line of record i, which holds it now, and what it leaves there
@@ -144,7 +143,7 @@ module _ (s : Shape) (b : Board) (g : Global) (a : Access) (Past : Type 0) (past
       }
 
   -- a miss, by whether the line that stood at the place had to be written back
-  module _ (line : ℕ) (write : Bool) (none : holder_of s x.records name ≡ Nothing) (h : HeldBy s name (inserted s p name line write x) p) where
+  module _ (line : ℕ) (write : Bool) (none : holder_of s x.records name ≡ None) (h : HeldBy s name (inserted s p name line write x) p) where
     abbrev missed : Bool → Outcome
     missed t = done (mark_of false t) p (inserted s p name line write x)
 
@@ -201,21 +200,21 @@ module _ (s : Shape) (b : Board) (g : Global) (a : Access) (Past : Type 0) (past
     }
 
   -- the access, by what the search finds, and then by the name's home
-  by_home : (home : Home) → home_of s b.words name ≡ home → holder_of s x.records name ≡ Nothing → unreached (way_by_home home) ≡ false
+  by_home : (home : Option Home) → home_of s b.words name ≡ home → holder_of s x.records name ≡ None → unreached (way_by_home home) ≡ false
       → Tells s x name Past (on_board b (touched (accessed_by s p name (g.0 % 16) a x (way_by_home home)) uses))
   unfolding way_by_home accessed_by unreached
-  by_home (HomeLine line write) e n u =
-      miss-tells line write n
-      (filled-held s name x (board-sized s b fits) b.uses b.words (board-shaped s b fits).words_are line write e n)
-      (must_write_back s x.records p) refl (only-home s p name (g.0 % 16) a x inside (HomeLine line write))
-  by_home Nowhere e n u = clash true refl u
+  by_home (Some hm) e n u =
+      miss-tells hm.line hm.write n
+      (filled-held s name x (board-sized s b fits) b.uses b.words (board-shaped s b fits).words_are hm.line hm.write e n)
+      (must_write_back s x.records p) refl (only-home s p name (g.0 % 16) a x inside (Some hm))
+  by_home None e n u = clash true refl u
 
-  by-found : (found : Found) → holder_of s x.records name ≡ found → unreached (way_by x.records (home_of s b.words name) found) ≡ false
+  by-found : (found : Option ℕ) → holder_of s x.records name ≡ found → unreached (way_by x.records (home_of s b.words name) found) ≡ false
       → Tells s x name Past (on_board b (touched (accessed_by s p name (g.0 % 16) a x (way_by x.records (home_of s b.words name) found)) uses))
   unfolding way_by accessed_by record_by
-  by-found (At i) e u =
-      hit-tells i (found-held s name x (board-sized s b fits) i e) (only-found s p name (g.0 % 16) a x inside (home_of s b.words name) (At i))
-  by-found Nothing e u = by_home (home_of s b.words name) refl e u
+  by-found (Some i) e u =
+      hit-tells i (found-held s name x (board-sized s b fits) i e) (only-found s p name (g.0 % 16) a x inside (home_of s b.words name) (Some i))
+  by-found None e u = by_home (home_of s b.words name) refl e u
 
 cached-tells : (s : Shape) (b : Board) (g : Global) (a : Access) (Past : Type 0) → (Past → ⊥) → g.0 % 16 + a.width ≤ 16 → fits_board s b ≡ true
     → unreached (way_to s b.words b.store.records g) ≡ false
@@ -343,11 +342,11 @@ module _ (s : Shape) (b : Board) (cache memory : List ℕ) (c : length cache ≡
   by_rows rows d e h = table-both OneMark (refused other) (refused b) (λ n. refl) rows d e (λ z. h)
 
   module _ (a : Access) where
-    way-mark : (to name offset : ℕ) (way : Way) → (accessed_by s to name offset a other.store way).answer.mark ≡ (accessed_by s to name offset a b.store way).answer.mark
+    way-mark : (to name offset : ℕ) (way : Option Way) → (accessed_by s to name offset a other.store way).answer.mark ≡ (accessed_by s to name offset a b.store way).answer.mark
     unfolding accessed_by performed_on
-    way-mark to name offset (Held i write) = refl
-    way-mark to name offset (InMemory line write) = refl
-    way-mark to name offset Missing = refl
+    way-mark to name offset (Some (Held i write)) = refl
+    way-mark to name offset (Some (InMemory line write)) = refl
+    way-mark to name offset None = refl
 
     line-mark : (g : Global) → (accessed s b.words g a other.store b.uses).reached.answer.mark ≡ (accessed s b.words g a b.store b.uses).reached.answer.mark
     unfolding accessed

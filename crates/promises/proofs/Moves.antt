@@ -1,4 +1,5 @@
 -- Move hands a page over: its table, what it makes of the page map, and what look shows. Stands on Maps, Leaving and demand 2.
+use Rattle.std.specs.Prelude.{Some, None}
 use Prim.Native.Nat.{ℕ, ◌+◌, ◌*◌, ◌/◌, ◌<◌}
 use mathlib.Core.Logic.{◌≢◌}
 use mathlib.Core.Path.{◌≡◌, refl, sym, ap, ◌∙◌}
@@ -17,7 +18,6 @@ use Rattle.address.specs.declared.Region.TheVariants.{Ordinary}
 use Rattle.pages.specs.Pages.{frame_word, word_writes, mapped_to}
 use Rattle.pages.proofs.Frames.{mapped-ordinary}
 use Rattle.board.specs.declared.Shape.{Shape}
-use Rattle.board.specs.declared.Found.TheVariants.{At, Nothing}
 use Rattle.board.proofs.Bools.{clash, and_left, and_right}
 use Rattle.lines.specs.Records.{line_at}
 use Rattle.lines.specs.Holds.{holds_at}
@@ -57,7 +57,7 @@ page-region g o =
     rw (ne_eqb (prefix_of g) 0 (λ e. omega arith), ne_eqb (prefix_of g) 1 (λ e. omega arith), ne_eqb (g.0 / table_bytes) table_index (λ e. omega arith))
 
 -- the plain machine does no access to it: row 8
-module _ (s : Shape) (p : Plain) (page : ℕ) (none : mapped_to s p.words page ≡ Nothing) where
+module _ (s : Shape) (p : Plain) (page : ℕ) (none : mapped_to s p.words page ≡ None) where
   plain-user-refused : (process : ℕ) (a : Access) (e : Effective) → page_of (plain_global p process e) ≡ page → (plain_user s p process a e).number ≡ 0 → ⊥
   unfolding plain_user rising is_mapped
   plain-user-refused process a e q z =
@@ -86,10 +86,10 @@ module _ (s : Shape) (b : Board) (page new : ℕ) where
     move-passed = zero-passed 1 (move_table s b page new) 0 (omega arith) (tables-rise.move s b page new) (sym move-number ∙ h)
 
     -- so it is done: both pages are ordinary, the old one has a frame, and the new one has none
-    old-found : mapped_to s b.words page ≡ At (found_frame (mapped_to s b.words page))
+    old-found : mapped_to s b.words page ≡ Some (found_frame (mapped_to s b.words page))
     old-found = found_at (mapped_to s b.words page) (move-passed 2)
 
-    new-free : mapped_to s b.words new ≡ Nothing
+    new-free : mapped_to s b.words new ≡ None
     new-free = found_nothing (mapped_to s b.words new) (move-passed 3)
 
     new-ordinary : ordinary_page new ≡ true
@@ -141,7 +141,7 @@ module _ (s : Shape) (b : Board) (page new : ℕ) where
     inside : frame < length b.words
     inside = (mapped-frame s b.words page frame old-found).inside
 
-    new-here : mapped_to s (set b.words frame word) new ≡ At frame
+    new-here : mapped_to s (set b.words frame word) new ≡ Some frame
     new-here =
         mapped-new s b.words new frame word inside new-ordinary (mapped-frame s b.words page frame old-found).from
         (frame-word-names new (word_writes (get_or b.words frame 0))) new-free
@@ -149,10 +149,10 @@ module _ (s : Shape) (b : Board) (page new : ℕ) where
     -- the two pages are not one
     pages-differ : page ≢ new
     pages-differ e = let x = old-found in let y = new-free in
-        let z : At frame ≡ Nothing = sym x ∙ rw e y in
+        let z : Some frame ≡ None = sym x ∙ rw e y in
         absurd (let w : ◌≡◌ {A = ℕ} 0 1 = cc in omega arith)
 
-    old-gone : PagesOnce s b.words → mapped_to s (set b.words frame word) page ≡ Nothing
+    old-gone : PagesOnce s b.words → mapped_to s (set b.words frame word) page ≡ None
     old-gone once =
         let k = mapped-frame s b.words page frame old-found in
         let w = (board-shaped s b move-fits).words_are in
@@ -232,7 +232,7 @@ module _ (s : Shape) (b : Board) (page new : ℕ) where
 
 -- a board that fits: the rows after the first
 module _ (s : Shape) (b : Board) (fits : fits_board s b ≡ true) where
-  done-zero : (page new frame : ℕ) → ordinary_page new ≡ true → mapped_to s b.words page ≡ At frame → mapped_to s b.words new ≡ Nothing
+  done-zero : (page new frame : ℕ) → ordinary_page new ≡ true → mapped_to s b.words page ≡ Some frame → mapped_to s b.words new ≡ None
       → (move_page s b page new).answer.number ≡ 0
   unfolding move_page by_table is_mapped
   done-zero page new frame o e n = let p = mapped-ordinary s b.words page frame (mapped_to s b.words page) refl e in rw (fits, p, o, e, n)
@@ -241,21 +241,21 @@ module _ (s : Shape) (b : Board) (fits : fits_board s b ≡ true) where
   unfolding move_page by_table
   outside-two page new o = rw (fits, o)
 
-  unmapped-eight : (page new : ℕ) → ordinary_page page ≡ true → ordinary_page new ≡ true → mapped_to s b.words page ≡ Nothing → move_page s b page new ≡ refused b 8
+  unmapped-eight : (page new : ℕ) → ordinary_page page ≡ true → ordinary_page new ≡ true → mapped_to s b.words page ≡ None → move_page s b page new ≡ refused b 8
   unfolding move_page by_table is_mapped
   unmapped-eight page new o p e = rw (fits, o, p, e)
 
-  mapped-eleven : (page new frame other : ℕ) → mapped_to s b.words page ≡ At frame → mapped_to s b.words new ≡ At other → move_page s b page new ≡ refused b 11
+  mapped-eleven : (page new frame other : ℕ) → mapped_to s b.words page ≡ Some frame → mapped_to s b.words new ≡ Some other → move_page s b page new ≡ refused b 11
   unfolding move_page by_table is_mapped
   mapped-eleven page new frame other e n =
       let p = mapped-ordinary s b.words page frame (mapped_to s b.words page) refl e in
       let o = mapped-ordinary s b.words new other (mapped_to s b.words new) refl n in
       rw (fits, p, o, e, n)
 
-  equal-eleven : (page frame : ℕ) → mapped_to s b.words page ≡ At frame → move_page s b page page ≡ refused b 11
+  equal-eleven : (page frame : ℕ) → mapped_to s b.words page ≡ Some frame → move_page s b page page ≡ refused b 11
   equal-eleven page frame e = mapped-eleven page page frame frame e e
 
-  equal-eight : (page : ℕ) → ordinary_page page ≡ true → mapped_to s b.words page ≡ Nothing → move_page s b page page ≡ refused b 8
+  equal-eight : (page : ℕ) → ordinary_page page ≡ true → mapped_to s b.words page ≡ None → move_page s b page page ≡ refused b 8
   equal-eight page o e = unmapped-eight page page o o e
 
 pub moves-hand-over : MovesHandOver

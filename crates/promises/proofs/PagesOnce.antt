@@ -1,4 +1,5 @@
 -- Every call keeps each page to one frame. Stands on Maps and the table laws of `machine`.
+use Rattle.std.specs.Prelude.{Some, None}
 use Prim.Native.Nat.{ℕ, ◌≤◌, ◌<◌}
 use mathlib.Core.Path.{◌≡◌, ◌∙◌, refl, sym}
 use mathlib.Core.Bool.{Bool, true, false}
@@ -11,7 +12,6 @@ use borrow.Author.Tests.{eqb-true, eqb-false}
 use Rattle.address.specs.Addresses.{ordinary_page}
 use Rattle.pages.specs.Pages.{frame_word, names_page, word_writes, mapped_to}
 use Rattle.board.specs.declared.Shape.{Shape}
-use Rattle.board.specs.declared.Found.TheVariants.{At, Nothing}
 use Rattle.board.proofs.Bools.{clash}
 use Rattle.machine.specs.Boards.{Board, Outcome, refused, fits_board}
 use Rattle.machine.specs.Refusals.{Row, by_table}
@@ -53,14 +53,14 @@ module _ (s : Shape) (words : List ℕ) (size : length words ≡ s.frames) (once
     same-page other e = sym (names-word (frame_word page write) other e).0 ∙ frame-word-page page write
 
     -- the word of a page that has no frame yet: map and move
-    once-mapped : (frame : ℕ) → mapped_to s words page ≡ Nothing → PagesOnce s (set words frame (frame_word page write))
+    once-mapped : (frame : ℕ) → mapped_to s words page ≡ None → PagesOnce s (set words frame (frame_word page write))
     once-mapped frame e =
         once-set frame (frame_word page write)
         (λ other g o l h n m.
         let z = same-page other n in
         clash (names_page (get_or words g 0) page) (rw z at m) (mapped-nothing s words page (rw z at o) e g l (omega arith)))
 
-    once-protected : (frame : ℕ) → mapped_to s words page ≡ At frame → PagesOnce s (set words frame (frame_word page write))
+    once-protected : (frame : ℕ) → mapped_to s words page ≡ Some frame → PagesOnce s (set words frame (frame_word page write))
     once-protected frame e =
         once-set frame (frame_word page write)
         (λ other g o l h n m.

@@ -1,5 +1,6 @@
 -- Demand 2's place: an access changes no record and no cache line but one of its own set, on any board.
 -- Stands on Bytes (lines written elsewhere) and the laws of `lines`, `reach` and `machine`.
+use Rattle.std.specs.Prelude.{Option, Some, None}
 use Prim.Native.Nat.{ℕ, ◌+◌, ◌%◌, ◌≤◌, ◌<◌}
 use mathlib.Core.Path.{◌≡◌, ◌∙◌, refl, sym}
 use mathlib.Core.Bool.{Bool, ◌||◌}
@@ -13,11 +14,9 @@ use Rattle.address.specs.declared.Global.{Global}
 use Rattle.address.specs.declared.Physical.{Physical}
 use Rattle.address.specs.declared.Region.{Region}
 use Rattle.address.specs.declared.Region.TheVariants.{Uncached, Cached, PageTable, Ordinary}
+use Rattle.board.specs.Homes.{at_line}
 use Rattle.board.specs.declared.Shape.{Shape}
-use Rattle.board.specs.declared.Found.{Found}
-use Rattle.board.specs.declared.Found.TheVariants.{At, Nothing}
 use Rattle.board.specs.declared.Home.{Home}
-use Rattle.board.specs.declared.Home.TheVariants.{Line as HomeLine, Nowhere}
 use Rattle.board.proofs.Bools.{or-false, cond_both}
 use Rattle.pages.specs.Pages.{home_of}
 use Rattle.lines.specs.Records.{line_at, changed_line}
@@ -92,16 +91,16 @@ module _ (s : Shape) (p : ℕ) where
 
 -- over any home of the name, and any record that a line that is not held goes to
 module _ (s : Shape) (to name offset : ℕ) (a : Access) (x : Store) (fits : offset + a.width ≤ 16) where
-  pub only-home : (home : Home) → OnlyAt (eqb to) x (accessed_by s to name offset a x (way_by_home home)).after
+  pub only-home : (home : Option Home) → OnlyAt (eqb to) x (accessed_by s to name offset a x (way_by_home home)).after
   unfolding accessed_by way_by_home
-  only-home (HomeLine line write) =
-      only-trans (eqb to) x (inserted s to name line write x) _ (only-inserted s to name line write x) (only-performed s to a offset fits _ _)
-  only-home Nowhere = only-refl (eqb to) x
+  only-home (Some hm) =
+      only-trans (eqb to) x (inserted s to name hm.line hm.write x) _ (only-inserted s to name hm.line hm.write x) (only-performed s to a offset fits _ _)
+  only-home None = only-refl (eqb to) x
 
-  pub only-found : (home : Home) (found : Found) → OnlyAt (eqb (record_by to found)) x (accessed_by s to name offset a x (way_by x.records home found)).after
+  pub only-found : (home : Option Home) (found : Option ℕ) → OnlyAt (eqb (record_by to found)) x (accessed_by s to name offset a x (way_by x.records home found)).after
   unfolding record_by way_by accessed_by
-  only-found home (At i) = only-performed s i a offset fits _ x
-  only-found home Nothing = only-home home
+  only-found home (Some i) = only-performed s i a offset fits _ x
+  only-found home None = only-home home
 
 module _ (s : Shape) (words : List ℕ) (g : Global) (a : Access) (x : Store) (uses : Uses) where
   abbrev own : ℕ
@@ -160,10 +159,10 @@ module _ (s : Shape) (b : Board) (a : Access) where
 
 -- the record of a name, its holder or else the victim, is one of its set
 module _ (s : Shape) (uses : Uses) (records : List ℕ) (name : ℕ) (w : 0 < s.ways) where
-  set-by : (found : Found) → found ≡ holder_of s records name → set_at s (record_by (victim_of s uses records name) found) ≡ place_of s name
+  set-by : (found : Option ℕ) → found ≡ holder_of s records name → set_at s (record_by (victim_of s uses records name) found) ≡ place_of s name
   unfolding record_by
-  set-by (At i) e = set_is s (place_of s name) i (holder_in s records name i (At i) e refl)
-  set-by Nothing e = victim-set s uses records name w
+  set-by (Some i) e = set_is s (place_of s name) i (holder_in s records name i (Some i) e refl)
+  set-by None e = victim-set s uses records name w
 
   record-set : set_at s (record_for s uses records name) ≡ place_of s name
   record-set = set-by (holder_of s records name) refl

@@ -1,5 +1,6 @@
 -- User and supervisor accesses: the board and the plain machine stay alike.
 -- Stands on Related, Lengths, Reaching (by the cache), Remap (past it), the set laws of `lines` and the regions of `machine`.
+use Rattle.std.specs.Prelude.{Option, Some, None}
 use Prim.Native.Nat.{ℕ, ◌+◌, ◌*◌, ◌/◌, ◌%◌, ◌≤◌, ◌<◌, ◌^◌}
 use mathlib.Core.Path.{◌≡◌, refl, sym}
 use mathlib.Core.Bool.{Bool, true, false, not, ◌&&◌, ◌||◌, cond}
@@ -17,10 +18,8 @@ use Rattle.address.specs.declared.Region.{Region}
 use Rattle.address.specs.declared.Region.TheVariants.{Uncached, Cached, PageTable, Ordinary}
 use Rattle.slots.specs.Slots.{slot_segment}
 use Rattle.pages.specs.Pages.{word_writes, mapped_to, home_of}
+use Rattle.board.specs.Homes.{at_line}
 use Rattle.board.specs.declared.Shape.{Shape}
-use Rattle.board.specs.declared.Found.{Found}
-use Rattle.board.specs.declared.Found.TheVariants.{At, Nothing}
-use Rattle.board.specs.declared.Home.TheVariants.{Line}
 use Rattle.board.proofs.Bools.{and_left, and_right, or-false}
 use Rattle.line_bytes.specs.Bytes.{number, stored}
 use Rattle.stores.specs.Stores.{store}
@@ -75,7 +74,7 @@ module _ (s : Shape) (b : Board) (m : List ℕ) (fits : fits_board s b ≡ true)
 
   module _ (g : Global) (a : Access) (inside : g.0 % 16 + a.width ≤ 16) where
     -- an access to a line that has a home is one to the flat memory
-    line_same : (p : ℕ) (w : Bool) → home_of s b.words (name_of g) ≡ Line p w
+    line_same : (p : ℕ) (w : Bool) → home_of s b.words (name_of g) ≡ Some (at_line p w)
         → Same s (home_of s b.words) a m (16 * p + g.0 % 16) (accessed s b.words g a b.store b.uses).reached
     unfolding accessed way_of
     line_same p w h =
@@ -84,7 +83,7 @@ module _ (s : Shape) (b : Board) (m : List ℕ) (fits : fits_board s b ≡ true)
         (victim-set s b.uses b.store.records (name_of g) x.ways_pos) h (g.0 % 16) a inside
 
     -- a done access to it
-    related-access : (p : ℕ) (w : Bool) (at : Physical) → home_of s b.words (name_of g) ≡ Line p w → at.0 ≡ 16 * p + g.0 % 16
+    related-access : (p : ℕ) (w : Bool) (at : Physical) → home_of s b.words (name_of g) ≡ Some (at_line p w) → at.0 ≡ 16 * p + g.0 % 16
         → Related s (on_board b (accessed s b.words g a b.store b.uses)) (plain_access (plain_of b m) at a)
     unfolding plain_access
     related-access p w at h q =
@@ -92,17 +91,17 @@ module _ (s : Shape) (b : Board) (m : List ℕ) (fits : fits_board s b ≡ true)
         rw q (related-touched (accessed s b.words g a b.store b.uses) a (16 * p + g.0 % 16) a.store (lengths-accessed s b a g).uses k.number k.value k.sim)
 
     -- rows 8 and 9 and the access, of an ordinary address
-    related-line : (user : Bool) (found : Found) → ordinary_page (page_of g) ≡ true → mapped_to s b.words (page_of g) ≡ found
+    related-line : (user : Bool) (found : Option ℕ) → ordinary_page (page_of g) ≡ true → mapped_to s b.words (page_of g) ≡ found
         → Related s (by_table (refused b) (row 8 (unreached (way_to s b.words b.store.records g))
         ∷ row 9 (user && (a.store && not (may_write (way_to s b.words b.store.records g)))) ∷ []) (on_board b (accessed s b.words g a b.store b.uses)))
         (by_table (plain_refused (plain_of b m)) (row 8 (not (is_mapped found)) ∷ row 9 (user && (a.store && not (word_writes (get_or b.words (found_frame found) 0)))) ∷ [])
         (plain_access (plain_of b m) (in_frame (found_frame found) g) a))
     unfolding by_table is_mapped found_frame way_of
-    related-line user Nothing o q =
+    related-line user None o q =
         let z : g.0 / 16 / page_lines ≡ g.0 / 4096 = omega arith in
         let h = unmapped-home s b.words (name_of g) (rw z o) (rw z q) in
         rw (way-nowhere s (home_of s b.words) x (name_of g) h) (related-refused s b m x 8)
-    related-line user (At f) o q =
+    related-line user (Some f) o q =
         let z : g.0 / 16 / page_lines ≡ g.0 / 4096 = omega arith in
         let h = mapped-home s b.words (name_of g) f (rw z q) in
         rw (way-reached s (home_of s b.words) x (name_of g) _ _ h, way-writes s (home_of s b.words) x (name_of g) _ _ h)

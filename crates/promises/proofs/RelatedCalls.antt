@@ -1,5 +1,6 @@
 -- Each call but the accesses: the board and the plain machine stay alike.
 -- Stands on Related, Remap (the calls on the page map) and, for load-and-map, Lengths, Reaching and the set laws of `lines`.
+use Rattle.std.specs.Prelude.{Some}
 use Prim.Native.Nat.{ℕ}
 use mathlib.Core.Path.{◌≡◌, refl}
 use mathlib.Core.Bool.{Bool, true}
@@ -9,9 +10,9 @@ use lib.Dec.{leb, ltb}
 use borrow.Author.Tests.{not-false, ltb-true, eqb-true}
 use Rattle.address.specs.Addresses.{ordinary_page}
 use Rattle.pages.specs.Pages.{frame_word, word_writes, mapped_to, home_of}
+use Rattle.board.specs.Homes.{at_line}
 use Rattle.board.specs.Answers.{answer}
 use Rattle.board.specs.declared.Shape.{Shape}
-use Rattle.board.specs.declared.Home.TheVariants.{Line}
 use Rattle.board.proofs.Bools.{and_left, and_right}
 use Rattle.line_bytes.specs.Bytes.{zeroed_frame}
 use Rattle.lines.specs.Victims.{victim_of}
@@ -101,7 +102,7 @@ module _ (s : Shape) (b : Board) (m : List ℕ) (fits : fits_board s b ≡ true)
       rw (lengths-same s b m x) (related-table s b m x (tag_table s b name) _ _ (λ k. record { memory = m; given_is = refl; sim = x }))
 
   -- load-and-map of a name keeps what the store stands for
-  loaded-sim : (name line : ℕ) (w : Bool) → home_of s b.words name ≡ Line line w
+  loaded-sim : (name line : ℕ) (w : Bool) → home_of s b.words name ≡ Some (at_line line w)
       → Sim s (home_of s b.words) (loaded s name line w b.store b.uses).store m
   unfolding loaded
   loaded-sim name line w h =

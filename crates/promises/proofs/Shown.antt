@@ -1,4 +1,5 @@
 -- Every board that fits shows a memory: the bytes that look shows, line after line. Stands on Held and on the shape laws.
+use Rattle.std.specs.Prelude.{Option, Some, None}
 use Prim.Native.Nat.{ℕ, zero, suc, ◌+◌, ◌*◌, ◌≤◌, ◌<◌}
 use mathlib.Core.Path.{◌≡◌, refl, sym, ◌∙◌}
 use mathlib.Core.Bool.{Bool, true, false}
@@ -11,8 +12,6 @@ use borrow.Author.Tests.{eqb-true, eqb-false}
 use Rattle.address.specs.Layout.{line_bytes, page_lines}
 use Rattle.board.specs.Lists.{part}
 use Rattle.board.specs.declared.Shape.{Shape}
-use Rattle.board.specs.declared.Found.{Found}
-use Rattle.board.specs.declared.Found.TheVariants.{At, Nothing}
 use Rattle.line_bytes.specs.Bytes.{line_of}
 use Rattle.board.proofs.Lists.{length_part}
 use Rattle.lines.specs.Holds.{keeper_of}
@@ -36,12 +35,12 @@ module _ (s : Shape) (b : Board) (fits : fits_board s b ≡ true) where
   unfolding current current_by line_of
   length-current line h = go (keeper_of s b.store.records line) refl
     where
-      go : (f : Found) → keeper_of s b.store.records line ≡ f → length (current_by b.store.cache b.store.memory line f) ≡ line_bytes
-      go (At i) e =
+      go : (f : Option ℕ) → keeper_of s b.store.records line ≡ f → length (current_by b.store.cache b.store.memory line f) ≡ line_bytes
+      go (Some i) e =
           let k = keeper-some s b.store.records line i e in
           let l = held-listed s b.store.records i s.lines (board-shaped s b fits).records_are k.0 in
           length_part b.store.cache (line_bytes * i) line_bytes (omega (arith, (board-shaped s b fits).cache_is))
-      go Nothing e = length_part b.store.memory (line_bytes * line) line_bytes (omega (arith, (board-shaped s b fits).memory_is))
+      go None e = length_part b.store.memory (line_bytes * line) line_bytes (omega (arith, (board-shaped s b fits).memory_is))
 
   length-shown : (n : ℕ) → n ≤ page_lines * s.frames → length (shown_lines s b.store n) ≡ line_bytes * n
   unfolding shown_lines

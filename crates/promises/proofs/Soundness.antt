@@ -1,5 +1,6 @@
 -- Sound boards and the boards that stand for a flat memory are the same; a fresh board is one.
 -- Stands on Sim, Bytes, Held, Zeroed and the set laws of `lines`.
+use Rattle.std.specs.Prelude.{Option, Some, None}
 use Prim.Native.Nat.{ℕ, ◌+◌, ◌*◌, ◌<◌}
 use mathlib.Core.Path.{◌≡◌, refl, sym, ap, ◌∙◌}
 use mathlib.Core.Bool.{true}
@@ -10,8 +11,6 @@ use Rattle.address.specs.Layout.{process_slots}
 use Rattle.pages.specs.Pages.{home_of, names_page}
 use Rattle.board.specs.Shapes.{matrices_of}
 use Rattle.board.specs.declared.Shape.{Shape}
-use Rattle.board.specs.declared.Found.{Found}
-use Rattle.board.specs.declared.Found.TheVariants.{At, Nothing}
 use Rattle.board.proofs.Bools.{clash, and_left}
 use Rattle.line_bytes.specs.Bytes.{line_of}
 use Rattle.lines.specs.Records.{line_at}
@@ -53,19 +52,19 @@ module _ (s : Shape) (b : Board) (m : List ℕ) (x : Sound s b) (y : Shows s b m
   r = b.store.records
 
   -- the bytes shown where record i holds line p
-  shown-held : (i p : ℕ) → holds_at s r i ≡ true → (line_at r i).physical ≡ p → (f : Found) → keeper_of s r p ≡ f → current_by b.store.cache b.store.memory p f ≡ line_of b.store.cache i
+  shown-held : (i p : ℕ) → holds_at s r i ≡ true → (line_at r i).physical ≡ p → (f : Option ℕ) → keeper_of s r p ≡ f → current_by b.store.cache b.store.memory p f ≡ line_of b.store.cache i
   unfolding current_by
-  shown-held i p h q (At j) e =
+  shown-held i p h q (Some j) e =
       let k = keeper-some s r p j e in
       ap (line_of b.store.cache) (x.lines_once j i k.0 h (k.1 ∙ sym q))
-  shown-held i p h q Nothing e =
+  shown-held i p h q None e =
       let l = held-listed s r i s.lines (board-shaped s b x.shape_holds).records_are h in
       absurd (keeper-nothing s r p i e l h q)
 
-  shown-bare : (p : ℕ) → ((i : ℕ) → holds_at s r i ≡ true → (line_at r i).physical ≡ p → ⊥) → (f : Found) → keeper_of s r p ≡ f → current_by b.store.cache b.store.memory p f ≡ line_of b.store.memory p
+  shown-bare : (p : ℕ) → ((i : ℕ) → holds_at s r i ≡ true → (line_at r i).physical ≡ p → ⊥) → (f : Option ℕ) → keeper_of s r p ≡ f → current_by b.store.cache b.store.memory p f ≡ line_of b.store.memory p
   unfolding current_by
-  shown-bare p free (At j) e = let k = keeper-some s r p j e in absurd (free j k.0 k.1)
-  shown-bare p free Nothing e = refl
+  shown-bare p free (Some j) e = let k = keeper-some s r p j e in absurd (free j k.0 k.1)
+  shown-bare p free None e = refl
 
   pub stands_of : Stands s b m
   unfolding current

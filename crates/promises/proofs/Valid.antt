@@ -1,5 +1,6 @@
 -- Every valid record holds a line: each call keeps that, of any board and any numbers.
 -- Stands on Runs, the steps of `store_laws` (Valid), `reach`, the set laws of `lines` and the table laws of `machine`.
+use Rattle.std.specs.Prelude.{Option, Some, None}
 use Prim.Native.Nat.{ℕ, ◌*◌, ◌<◌}
 use mathlib.Core.Path.{◌≡◌, refl}
 use mathlib.Core.Bool.{Bool, false, not}
@@ -13,8 +14,6 @@ use Rattle.address.specs.declared.Physical.{Physical}
 use Rattle.address.specs.declared.Region.{Region}
 use Rattle.address.specs.declared.Region.TheVariants.{Uncached, Cached, PageTable, Ordinary}
 use Rattle.board.specs.declared.Shape.{Shape}
-use Rattle.board.specs.declared.Found.{Found}
-use Rattle.board.specs.declared.Found.TheVariants.{At, Nothing}
 use Rattle.board.proofs.Bools.{cond_both}
 use Rattle.lines.specs.Holds.{holder_of}
 use Rattle.lines.specs.Victims.{Uses, victim_of}
@@ -22,7 +21,7 @@ use Rattle.lines.proofs.Sets.{ways_pos, victim-set}
 use Rattle.stores.specs.Stores.{Store}
 use Rattle.stores.specs.declared.Access.{Access}
 use Rattle.reach.specs.declared.Way.{Way}
-use Rattle.reach.specs.declared.Way.TheVariants.{Held, InMemory, Missing}
+use Rattle.reach.specs.declared.Way.TheVariants.{Held, InMemory}
 use Rattle.reach.proofs.Reach.{way-inside}
 use Rattle.visits.specs.Visits.{map_visit, unmap_visit, protect_visit, move_visit, flush_visit}
 use Rattle.machine.specs.Boards.{Board, Outcome, fits_board, refused}
@@ -46,15 +45,15 @@ module _ (s : Shape) (a : Access) where
   valid-done i offset mark x all = valid-performed s i offset a x.records x.cache all
 
   module _ (words : List ℕ) (size : length words ≡ s.frames) (ways : 0 < s.ways) (x : Store) (uses : Uses) (all : ValidHolds s x) where
-    valid-accessed-by : (g : Global) (offset : ℕ) (way : Way) → way ≡ way_to s words x.records g
+    valid-accessed-by : (g : Global) (offset : ℕ) (way : Option Way) → way ≡ way_to s words x.records g
         → ValidHolds s (accessed_by s (victim_for s uses x.records g) (name_of g) offset a x way).after
     unfolding accessed_by
-    valid-accessed-by g offset (Held i write) e = valid-done i offset _ x all
-    valid-accessed-by g offset (InMemory line write) e =
+    valid-accessed-by g offset (Some (Held i write)) e = valid-done i offset _ x all
+    valid-accessed-by g offset (Some (InMemory line write)) e =
         valid-done (victim_for s uses x.records g) offset _ _
         (valid-inserted s (victim_for s uses x.records g) (name_of g) line write x (victim-set s uses x.records (name_of g) ways)
-        (way-inside s words x.records (name_of g) line write (InMemory line write) e refl size) all)
-    valid-accessed-by g offset Missing e = all
+        (way-inside s words x.records (name_of g) line write (Some (InMemory line write)) e refl size) all)
+    valid-accessed-by g offset None e = all
 
     valid-accessed : (g : Global) → ValidHolds s (accessed s words g a x uses).reached.after
     unfolding accessed
@@ -91,9 +90,9 @@ module _ (s : Shape) (b : Board) (all : ValidHolds s b.store) where
       to : ℕ
       to = victim_of s b.uses b.store.records name
 
-      go : (found : Found) → ValidHolds s (loaded_by s to name line write b.store found)
-      go (At i) = all
-      go Nothing = valid-inserted s to name line write b.store (victim-set s b.uses b.store.records name w) inside all
+      go : (found : Option ℕ) → ValidHolds s (loaded_by s to name line write b.store found)
+      go (Some i) = all
+      go None = valid-inserted s to name line write b.store (victim-set s b.uses b.store.records name w) inside all
 
   valid-supervise : (c : Supervisor) → ValidHolds s (supervise s b c).after.store
   unfolding supervise supervisor_access supervisor_table board.attach board.detach board.map_page board.unmap board.protect board.move_page board.flush_all board.tag board.load_and_map board.drop_tag mapped unmapped protected moved

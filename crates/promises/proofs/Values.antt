@@ -1,4 +1,5 @@
 -- Values that fit. Stands on Demand1 (a number that is given is a row's that applies) and Kept (what a done store leaves).
+use Rattle.std.specs.Prelude.{Option, Some, None}
 use Prim.Native.Nat.{ℕ, ◌%◌, ◌^◌, ◌≤◌}
 use mathlib.Core.Path.{◌≡◌, refl, ap}
 use mathlib.Core.Bool.{Bool, true, false, not, ◌&&◌}
@@ -16,7 +17,7 @@ use Rattle.lines.specs.Victims.{Uses}
 use Rattle.stores.specs.Stores.{Store, performed_at}
 use Rattle.stores.specs.declared.Access.{Access}
 use Rattle.reach.specs.declared.Way.{Way}
-use Rattle.reach.specs.declared.Way.TheVariants.{Held, InMemory, Missing}
+use Rattle.reach.specs.declared.Way.TheVariants.{Held, InMemory}
 use Rattle.machine.specs.Boards.{Board, fits_board, refused}
 use Rattle.machine.specs.Refusals.{Row, row, by_table, is_process, is_global, is_width, too_large, aligned_to}
 use Rattle.machine.specs.Accesses.{Reached, performed_on, accessed_by, uses_by, Touched, touched, accessed, way_to, victim_for, on_board, user_global, user_table, user_access, memory_access, supervisor_table, supervisor_done, supervisor_access}
@@ -79,11 +80,11 @@ bad s b (as_user n e) width v w h = rw h
 bad s b (as_supervisor g) width v w h = rw h
 
 module _ (s : Shape) (width v w : ℕ) where
-  loaded-by : (to name offset : ℕ) (x : Store) (way : Way) → accessed_by s to name offset (loading width v) x way ≡ accessed_by s to name offset (loading width w) x way
+  loaded-by : (to name offset : ℕ) (x : Store) (way : Option Way) → accessed_by s to name offset (loading width v) x way ≡ accessed_by s to name offset (loading width w) x way
   unfolding accessed_by performed_on performed_at
-  loaded-by to name offset x (Held i write) = refl
-  loaded-by to name offset x (InMemory line write) = refl
-  loaded-by to name offset x Missing = refl
+  loaded-by to name offset x (Some (Held i write)) = refl
+  loaded-by to name offset x (Some (InMemory line write)) = refl
+  loaded-by to name offset x None = refl
 
   loaded : (words : List ℕ) (g : Global) (x : Store) (uses : Uses) → accessed s words g (loading width v) x uses ≡ accessed s words g (loading width w) x uses
   unfolding accessed

@@ -1,5 +1,6 @@
 -- Two plain machines that differ in memory only, and agree on the pages of some segments: what each call keeps of that.
 -- Stands on Bytes, Zeroed, Maps, Admitted and the table laws of `machine`.
+use Rattle.std.specs.Prelude.{Some}
 use Prim.Native.Nat.{ℕ, ◌+◌, ◌*◌, ◌/◌, ◌%◌, ◌≤◌, ◌<◌}
 use mathlib.Core.Path.{◌≡◌, refl, sym, ap, ◌∙◌}
 use mathlib.Core.Bool.{Bool, true, false, not, ◌&&◌, cond}
@@ -19,7 +20,6 @@ use Rattle.address.specs.declared.Region.TheVariants.{Uncached, Cached, PageTabl
 use Rattle.slots.specs.Slots.{slot_segment}
 use Rattle.pages.specs.Pages.{names_page, frame_word, word_writes, mapped_to}
 use Rattle.board.specs.declared.Shape.{Shape}
-use Rattle.board.specs.declared.Found.TheVariants.{At}
 use Rattle.board.proofs.Bools.{clash, and_right}
 use Rattle.line_bytes.specs.Bytes.{number, digits, stored, line_of, zeroed_frame}
 use Rattle.stores.specs.declared.Access.{Access}
@@ -304,7 +304,7 @@ module _ (S : ℕ → Bool) (s : Shape) (p : Plain) (n : List ℕ) (v : View S s
 
   -- ---- the bytes of a page of a segment of S
 
-  view-look : (page frame line : ℕ) → S (segment_of_page page) ≡ true → mapped_to s p.words page ≡ At frame → line / page_lines ≡ frame
+  view-look : (page frame line : ℕ) → S (segment_of_page page) ≡ true → mapped_to s p.words page ≡ Some frame → line / page_lines ≡ frame
       → plain_look s p line ≡ plain_look s q line
   unfolding plain_look
   view-look page frame line i e l =
@@ -342,7 +342,7 @@ module _ (S : ℕ → Bool) (s : Shape) (p q : Plain) (h : AlikeIn S s p q) wher
   unfolding plain_step
   alike-reply process a e k = rw h.same_rest (view-reply S s p q.memory h.view process a e k)
 
-  pub alike-look : (page frame line : ℕ) → S (segment_of_page page) ≡ true → mapped_to s p.words page ≡ At frame → line / page_lines ≡ frame
+  pub alike-look : (page frame line : ℕ) → S (segment_of_page page) ≡ true → mapped_to s p.words page ≡ Some frame → line / page_lines ≡ frame
       → plain_look s p line ≡ plain_look s q line
   alike-look page frame line i e l = rw h.same_rest (view-look S s p q.memory h.view page frame line i e l)
 

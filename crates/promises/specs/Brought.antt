@@ -4,11 +4,10 @@
 -- (The board has its matrices here, so they pin the edition too. The functions of 01's edition for C and Rust are lent none and can't notice a board of
 -- the other: a caller keeps to one edition's functions.)
 use Prim.{Unit}
-use Rattle.std.specs.Prelude.{ℕ, ◌/◌, ◌<◌, ◌≡◌, Bool, true, false, cond, List, [], ◌∷◌, eqb}
+use Rattle.std.specs.Prelude.{ℕ, ◌/◌, ◌<◌, ◌≡◌, Bool, true, false, cond, List, [], ◌∷◌, eqb, Some}
 use Rattle.address.specs.Layout.{page_lines}
 use Rattle.pages.specs.Pages.{mapped_to}
 use Rattle.board.specs.declared.Shape.{Shape}
-use Rattle.board.specs.declared.Found.TheVariants.{At}
 use Rattle.machine.specs.Boards.{Board, fits_board, Fresh}
 use Rattle.machine.specs.Looks.{look_number, look}
 use Rattle.promises.specs.Plain.{Plain, plain_look, plain_look_number}
@@ -166,7 +165,7 @@ pub record BroughtSameForProcess (s : Shape) (b : Board) (memory : List ℕ) (ks
   pub plain_replies_second : brought_replies_to process b ls ≡ plain_brought_replies_to process (plain_of b memory) ls
   pub same_map : (brought_after b ks).words ≡ (brought_after b ls).words
   pub same_bytes : (page frame line : ℕ) → brought_at_some_moment (λ slots. holds slots process (segment_of_page page)) b ks ≡ true
-      → mapped_to s (brought_after b ks).words page ≡ At frame → line / page_lines ≡ frame
+      → mapped_to s (brought_after b ks).words page ≡ Some frame → line / page_lines ≡ frame
       → look s (brought_after b ks) line ≡ look s (brought_after b ls) line
 
 -- two such runs from one board with the same supervisor calls and the same accesses by our process, with the same numbers, in the same order

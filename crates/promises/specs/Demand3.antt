@@ -1,11 +1,10 @@
 -- Demand 3. What one process gets does not depend on the accesses of the others. With moves (CR 9) that needs one premise more. It holds from any sound
 -- board (CR 13), not only from a fresh one.
-use Rattle.std.specs.Prelude.{ℕ, zero, suc, ◌+◌, ◌*◌, ◌/◌, ◌<◌, ◌≡◌, Bool, true, false, not, ◌&&◌, ◌||◌, cond, List, [], ◌∷◌, get_or, eqb}
+use Rattle.std.specs.Prelude.{ℕ, zero, suc, ◌+◌, ◌*◌, ◌/◌, ◌<◌, ◌≡◌, Bool, true, false, not, ◌&&◌, ◌||◌, cond, List, [], ◌∷◌, get_or, eqb, Some}
 use Rattle.address.specs.Layout.{segment_bytes, page_bytes, page_lines, process_slots}
 use Rattle.slots.specs.Slots.{slot_index, slot_segment, slot_writes, slot_empty}
 use Rattle.pages.specs.Pages.{mapped_to}
 use Rattle.board.specs.declared.Shape.{Shape}
-use Rattle.board.specs.declared.Found.TheVariants.{At}
 use Rattle.machine.specs.Boards.{Board, Fresh}
 use Rattle.machine.specs.Calls.{found_frame}
 use Rattle.machine.specs.Looks.{look}
@@ -148,7 +147,7 @@ pub record SameForProcess (s : Shape) (b : Board) (memory : List ℕ) (ks ls : L
   -- that the process holds at any moment of the run
   pub same_map : (after s b ks).words ≡ (after s b ls).words
   pub same_bytes : (page frame line : ℕ) → ever_holds s b ks process (segment_of_page page) ≡ true
-      → mapped_to s (after s b ks).words page ≡ At frame → line / page_lines ≡ frame
+      → mapped_to s (after s b ks).words page ≡ Some frame → line / page_lines ≡ frame
       → look s (after s b ks) line ≡ look s (after s b ls) line
 
 -- the premise on segments may be read off either run: of any board at all, if the one meets it, so does the other

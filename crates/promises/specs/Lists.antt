@@ -1,10 +1,9 @@
 -- CR 12: a list of user accesses is its accesses as calls, one after another. So what the demands say of runs holds of runs in which lists come.
-use Rattle.std.specs.Prelude.{ℕ, ◌*◌, ◌/◌, ◌<◌, ◌≡◌, true, cond, List, [], ◌∷◌, ◌++◌, map, eqb, length, get_or}
+use Rattle.std.specs.Prelude.{ℕ, ◌*◌, ◌/◌, ◌<◌, ◌≡◌, true, cond, List, [], ◌∷◌, ◌++◌, map, eqb, length, get_or, Some}
 use Rattle.address.specs.Layout.{page_lines}
 use Rattle.board.specs.Answers.{answer, mark_no_access}
 use Rattle.board.specs.declared.Shape.{Shape}
 use Rattle.board.specs.declared.Answer.{Answer}
-use Rattle.board.specs.declared.Found.TheVariants.{At}
 use Rattle.pages.specs.Pages.{mapped_to}
 use Rattle.machine.specs.Boards.{Board, Fresh, fits_board}
 use Rattle.machine.specs.Looks.{look}
@@ -95,7 +94,7 @@ pub record ListRuns (s : Shape) (b : Board) (memory : List ℕ) : Type 0 where
   pub bytes : (ts us : List Turn) (process : ℕ) → TwoRuns s b (calls_of b ts) (calls_of b us) process → BroughtApart s b (calls_of b ts) process
       → BroughtMovesAlike b (calls_of b ts) (calls_of b us) process → (page frame line : ℕ)
       → brought_at_some_moment (λ slots. holds slots process (segment_of_page page)) b (calls_of b ts) ≡ true
-      → mapped_to s (after_turns b ts).words page ≡ At frame → line / page_lines ≡ frame
+      → mapped_to s (after_turns b ts).words page ≡ Some frame → line / page_lines ≡ frame
       → look s (after_turns b ts) line ≡ look s (after_turns b us) line
   -- and no physical line is held twice
   pub one_copy : (ts : List Turn) → EachBrings s b (calls_of b ts) → LinesOnce s (after_turns b ts).store

@@ -1,14 +1,13 @@
 -- CR 9: move hands a page over. After it the new page shows the bytes that the old one showed, through the cache, and the old page is not mapped (on a sound
 -- board: of a doubled page only the lowest frame's word changes).
 -- (That the plain machine does what the board does is demand 2; what it means for demand 3 is said there.)
-use Rattle.std.specs.Prelude.{ℕ, ◌<◌, ◌≡◌, true, false, ◌&&◌, List, get_or}
+use Rattle.std.specs.Prelude.{ℕ, ◌<◌, ◌≡◌, true, false, ◌&&◌, List, get_or, Some, None}
 use Rattle.address.specs.Layout.{page_lines}
 use Rattle.address.specs.Addresses.{page_of, ordinary_page, page_of_name}
 use Rattle.address.specs.declared.Effective.{Effective}
 use Rattle.address.specs.declared.Global.{Global}
 use Rattle.pages.specs.Pages.{word_writes, mapped_to}
 use Rattle.board.specs.declared.Shape.{Shape}
-use Rattle.board.specs.declared.Found.TheVariants.{At, Nothing}
 use Rattle.stores.specs.declared.Access.{Access}
 use Rattle.line_bytes.specs.Bytes.{line_of}
 use Rattle.lines.specs.Records.{line_at}
@@ -25,12 +24,12 @@ use Rattle.promises.specs.Demand3.{page_line}
 pub record HandedOver (s : Shape) (b c : Board) (page new : ℕ) : Type 0 where
   -- the new page has the frame that the old one had, with the same permission, and shows the same bytes
   pub frame : ℕ
-  pub old_frame : mapped_to s b.words page ≡ At frame
-  pub new_frame : mapped_to s c.words new ≡ At frame
+  pub old_frame : mapped_to s b.words page ≡ Some frame
+  pub new_frame : mapped_to s c.words new ≡ Some frame
   pub same_permission : word_writes (get_or c.words frame 0) ≡ word_writes (get_or b.words frame 0)
   pub same_bytes : (i : ℕ) → i < page_lines → page_line s c new i ≡ page_line s b page i
   -- the old page is not mapped, and no access to it is done, by a process or by the supervisor
-  pub old_unmapped : mapped_to s c.words page ≡ Nothing
+  pub old_unmapped : mapped_to s c.words page ≡ None
   pub old_refused_user : (process : ℕ) (a : Access) (e : Effective) → page_of (user_global c.slots process e) ≡ page
       → (user_access s c process a e).answer.number ≡ 0 → ⊥
   pub old_refused_supervisor : (a : Access) (g : Global) → page_of g ≡ page → (supervisor_access s c a g).answer.number ≡ 0 → ⊥
@@ -44,7 +43,7 @@ pub record LeavesRest (s : Shape) (b c : Board) (page new : ℕ) : Type 0 where
   pub same_slots : c.slots ≡ b.slots
   pub same_tag : c.tag ≡ b.tag
   pub same_uses : c.uses ≡ b.uses
-  pub same_words : (f : ℕ) → (mapped_to s b.words page ≡ At f → ⊥) → get_or c.words f 0 ≡ get_or b.words f 0
+  pub same_words : (f : ℕ) → (mapped_to s b.words page ≡ Some f → ⊥) → get_or c.words f 0 ≡ get_or b.words f 0
   pub same_cache : c.store.cache ≡ b.store.cache
   pub same_records : (i : ℕ) → i < s.lines
       → (holds_at s b.store.records i ≡ true
@@ -73,14 +72,14 @@ pub record MovesHandOver : Type 0 where
   pub leaves_rest : (s : Shape) (b : Board) (page new : ℕ) → (move_page s b page new).answer.number ≡ 0 → LeavesRest s b (move_page s b page new).after page new
   -- on any board that fits: it is done where the old page is mapped and the new one, an ordinary page, is not, whatever tag is pending
   pub is_done_lem : (s : Shape) (b : Board) (page new frame : ℕ) → fits_board s b ≡ true → ordinary_page new ≡ true
-      → mapped_to s b.words page ≡ At frame → mapped_to s b.words new ≡ Nothing → (move_page s b page new).answer.number ≡ 0
+      → mapped_to s b.words page ≡ Some frame → mapped_to s b.words new ≡ None → (move_page s b page new).answer.number ≡ 0
   -- and refused, with nothing changed: by 2 where one of the pages is not ordinary, by 8 where the old one is not mapped, by 11 where the new one is
   pub refused_2 : (s : Shape) (b : Board) (page new : ℕ) → fits_board s b ≡ true → (ordinary_page page && ordinary_page new) ≡ false → move_page s b page new ≡ refused b 2
   pub refused_8 : (s : Shape) (b : Board) (page new : ℕ) → fits_board s b ≡ true → ordinary_page page ≡ true → ordinary_page new ≡ true
-      → mapped_to s b.words page ≡ Nothing → move_page s b page new ≡ refused b 8
+      → mapped_to s b.words page ≡ None → move_page s b page new ≡ refused b 8
   pub refused_11 : (s : Shape) (b : Board) (page new frame other : ℕ) → fits_board s b ≡ true
-      → mapped_to s b.words page ≡ At frame → mapped_to s b.words new ≡ At other → move_page s b page new ≡ refused b 11
+      → mapped_to s b.words page ≡ Some frame → mapped_to s b.words new ≡ Some other → move_page s b page new ≡ refused b 11
   -- equal pages, then: by 11, or by 8 if the page isn't mapped
-  pub equal_mapped : (s : Shape) (b : Board) (page frame : ℕ) → fits_board s b ≡ true → mapped_to s b.words page ≡ At frame → move_page s b page page ≡ refused b 11
+  pub equal_mapped : (s : Shape) (b : Board) (page frame : ℕ) → fits_board s b ≡ true → mapped_to s b.words page ≡ Some frame → move_page s b page page ≡ refused b 11
   pub equal_unmapped : (s : Shape) (b : Board) (page : ℕ) → fits_board s b ≡ true → ordinary_page page ≡ true
-      → mapped_to s b.words page ≡ Nothing → move_page s b page page ≡ refused b 8
+      → mapped_to s b.words page ≡ None → move_page s b page page ≡ refused b 8

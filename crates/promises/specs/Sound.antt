@@ -1,11 +1,11 @@
 -- Sound boards: the rules by which a board can be checked, each with its own name.
-use Rattle.std.specs.Prelude.{ℕ, zero, suc, ◌*◌, ◌≤◌, ◌<◌, ◌≡◌, true, false, List, [], ◌++◌, length, get_or}
+use Rattle.std.specs.Prelude.{ℕ, zero, suc, ◌*◌, ◌≤◌, ◌<◌, ◌≡◌, true, false, List, [], ◌++◌, length, get_or, Option, Some}
 use Rattle.address.specs.Layout.{page_lines}
 use Rattle.address.specs.Addresses.{ordinary_page}
 use Rattle.pages.specs.Pages.{names_page, home_of}
+use Rattle.board.specs.Homes.{at_line}
 use Rattle.board.specs.declared.Shape.{Shape}
 use Rattle.board.specs.declared.Home.{Home}
-use Rattle.board.specs.declared.Home.TheVariants.{Line}
 use Rattle.line_bytes.specs.Bytes.{line_of}
 use Rattle.lines.specs.Records.{line_at}
 use Rattle.stores.specs.Stores.{Store, current}
@@ -29,10 +29,10 @@ LinesOnce s x =
     → (line_at x.records i).physical ≡ (line_at x.records j).physical → i ≡ j
 
 -- each held line's physical line is the one its name maps to, with that page's permission; what names map to is any map of homes
-abbrev pub LinesAtHome : (ℕ → Home) → Shape → Store → Type 0
+abbrev pub LinesAtHome : (ℕ → Option Home) → Shape → Store → Type 0
 LinesAtHome home s x =
     (i : ℕ) → holds_at s x.records i ≡ true
-    → home (line_at x.records i).name ≡ Line (line_at x.records i).physical (line_at x.records i).write
+    → home (line_at x.records i).name ≡ Some (at_line (line_at x.records i).physical (line_at x.records i).write)
 
 -- by the frame words (a prefix 1 line: its frame is from U up with word 0, and it may be written; any other name maps to nothing)
 abbrev pub LinesMapped : Shape → List ℕ → Store → Type 0

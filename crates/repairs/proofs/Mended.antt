@@ -1,4 +1,5 @@
 -- What a repair says and leaves, case by case.
+use Rattle.std.specs.Prelude.{Option, Some, None}
 use Prim.Native.Nat.{ℕ}
 use mathlib.Core.Path.{◌≡◌, refl}
 use mathlib.Core.Bool.{Bool, true, false, ◌&&◌}
@@ -9,8 +10,6 @@ use lib.ListN.{length}
 use Rattle.board.specs.Shapes.{fits_shape}
 use Rattle.board.specs.declared.Shape.{Shape}
 use Rattle.board.specs.declared.Pending.{Pending}
-use Rattle.board.specs.declared.Found.{Found}
-use Rattle.board.specs.declared.Found.TheVariants.{At, Nothing}
 use Rattle.board.specs.declared.Home.{Home}
 use Rattle.board.proofs.Bools.{clash, and-false}
 use Rattle.pages.specs.Pages.{home_of}
@@ -21,17 +20,17 @@ use Rattle.dumps.specs.declared.Report.{Report}
 use Rattle.dumps.specs.Checks.{report, too_short, from_rule3, room_for}
 use Rattle.repairs.specs.Repairs.{repaired, dropped_flags, dropped_count, Repaired, repair_outcome, with_dropped, mended_lines, mended_pages, repair_board, repair_call}
 
-pub lines-mended : (s : Shape) (home : ℕ → Home) (r c m r₁ flags : List ℕ) (before : Report) (count : ℕ) → before ≡ from_rule3 s home (store r c m)
+pub lines-mended : (s : Shape) (home : ℕ → Option Home) (r c m r₁ flags : List ℕ) (before : Report) (count : ℕ) → before ≡ from_rule3 s home (store r c m)
     → store r₁ c m ≡ repaired s home (store r c m) → flags ≡ dropped_flags s r r₁ → count ≡ dropped_count s r r₁
     → repair_outcome (with_dropped before count) (store r₁ c m) flags ≡ mended_lines s home (store r c m)
 lines-mended s home r c m r₁ flags before count e q f k = rw (← q, e, f, k)
 
-module _ (s : Shape) (words : List ℕ) (x : Store) (flags : List ℕ) (found : Found) (e : found ≡ doubled_page s words) where
-  pub pages-doubled : (f : ℕ) (r : Report) → found ≡ At f → r ≡ report 2 f → repair_outcome r x flags ≡ mended_pages s words x flags (doubled_page s words)
+module _ (s : Shape) (words : List ℕ) (x : Store) (flags : List ℕ) (found : Option ℕ) (e : found ≡ doubled_page s words) where
+  pub pages-doubled : (f : ℕ) (r : Report) → found ≡ Some f → r ≡ report 2 f → repair_outcome r x flags ≡ mended_pages s words x flags (doubled_page s words)
   unfolding mended_pages
   pages-doubled f r k q = rw (← e, k, q)
 
-  pub pages-mended : (o : Repaired) → found ≡ Nothing → o ≡ mended_lines s (home_of s words) x → o ≡ mended_pages s words x flags (doubled_page s words)
+  pub pages-mended : (o : Repaired) → found ≡ None → o ≡ mended_lines s (home_of s words) x → o ≡ mended_pages s words x flags (doubled_page s words)
   unfolding mended_pages
   pages-mended o k q = rw (← e, k, q)
 

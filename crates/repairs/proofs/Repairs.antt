@@ -1,4 +1,5 @@
 -- The repair, record by record: what it keeps and what it drops, flags and counts.
+use Rattle.std.specs.Prelude.{Option}
 use Prim.Native.Nat.{ℕ, zero, suc, ◌+◌, ◌*◌, ◌≤◌, ◌<◌}
 use mathlib.Core.Path.{◌≡◌, ◌∙◌, sym, refl, ap}
 use mathlib.Core.Logic.{⊎_elim}
@@ -93,7 +94,7 @@ pick true false p = refl
 pick false true p = refl
 pick false false p = refl
 
-module _ (s : Shape) (home : ℕ → Home) (r₀ c m keys r : List ℕ) (n i : ℕ) (keys_are : keys ≡ keys_of (place_key true s home (store r₀ c m)) n) (size : length r₀ ≡ 2 * n) (h : i < n)
+module _ (s : Shape) (home : ℕ → Option Home) (r₀ c m keys r : List ℕ) (n i : ℕ) (keys_are : keys ≡ keys_of (place_key true s home (store r₀ c m)) n) (size : length r₀ ≡ 2 * n) (h : i < n)
     (w : Mending s r₀ keys r i) where
   abbrev key : ℕ
   key = get_or keys i 0

@@ -1,4 +1,5 @@
 -- The walk over the places, as the loop has it: the tree, the records, the flags and their count, all of the places below i.
+use Rattle.std.specs.Prelude.{Option}
 use Prim.Native.Nat.{ℕ, ◌+◌, ◌*◌, ◌-◌, ◌≤◌, ◌<◌}
 use mathlib.Core.Path.{◌≡◌, ◌∙◌, sym, refl, ap}
 use mathlib.Core.Bool.{Bool, true, not, ◌&&◌}
@@ -21,7 +22,7 @@ use Rattle.repairs.specs.Repairs.{mended, repaired, dropped_at, how_many, droppe
 use Rattle.repairs.specs.Steps.{kept_at, mended_to}
 use Rattle.repairs.proofs.Repairs.{Mending, mending-start, mending-more, keys-sized, Flagged, flagged-start, flagged-low, flagged-more}
 
-pub record Going (s : Shape) (home : ℕ → Home) (r₀ c m keys links₀ r links flags : List ℕ) (count i : ℕ) : Type 0 where
+pub record Going (s : Shape) (home : ℕ → Option Home) (r₀ c m keys links₀ r links flags : List ℕ) (count i : ℕ) : Type 0 where
   pub at_most : i ≤ s.lines
   pub tree : Tree keys links i
   pub keys_length : length keys ≡ s.lines
@@ -34,7 +35,7 @@ pub record Going (s : Shape) (home : ℕ → Home) (r₀ c m keys links₀ r lin
   pub flagged : Flagged s r₀ r flags i count
   pub whole : repaired s home (store r₀ c m) ≡ sweep (mended s home) (s.lines - i) i (store r c m)
 
-pub going_start : (s : Shape) (home : ℕ → Home) (r c m keys links flags : List ℕ) (n : ℕ) → Tree keys links 0 → length keys ≡ s.lines → 2 * s.lines ≤ length links
+pub going_start : (s : Shape) (home : ℕ → Option Home) (r c m keys links flags : List ℕ) (n : ℕ) → Tree keys links 0 → length keys ≡ s.lines → 2 * s.lines ≤ length links
     → length flags ≡ s.lines → length r ≡ 2 * s.lines → keys ≡ keys_of (place_key true s home (store r c m)) n → n ≡ s.lines
     → Going s home r c m keys links r links flags 0 0
 unfolding repaired
@@ -52,7 +53,7 @@ going_start s home r c m keys links flags n tree k l f size e q = record {
   whole = rw sub-zero;
 }
 
-module _ (s : Shape) (home : ℕ → Home) (r₀ c m keys links₀ r links flags : List ℕ) (count i : ℕ) (g : Going s home r₀ c m keys links₀ r links flags count i) where
+module _ (s : Shape) (home : ℕ → Option Home) (r₀ c m keys links₀ r links flags : List ℕ) (count i : ℕ) (g : Going s home r₀ c m keys links₀ r links flags count i) where
   pub going-record : i < s.lines → 2 * i + 2 ≤ length r
   going-record h = omega (arith, g.mending.size, g.records_length)
 

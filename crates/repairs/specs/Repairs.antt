@@ -1,10 +1,8 @@
 -- 02, CR 13: the repair. It writes nothing to memory and only drops lines, keeping every line that breaks no rule alone or with a lower line that is
 -- kept; wrong lengths and doubled pages are reported and nothing is changed.
-use Rattle.std.specs.Prelude.{ℕ, zero, suc, ◌+◌, Bool, false, not, ◌&&◌, ◌||◌, cond, List, eqb, length}
+use Rattle.std.specs.Prelude.{ℕ, zero, suc, ◌+◌, Bool, false, not, ◌&&◌, ◌||◌, cond, List, eqb, length, Option, Some, None}
 use Rattle.board.specs.Lists.{bit}
 use Rattle.board.specs.declared.Shape.{Shape}
-use Rattle.board.specs.declared.Found.{Found}
-use Rattle.board.specs.declared.Found.TheVariants.{At, Nothing}
 use Rattle.board.specs.declared.Home.{Home}
 use Rattle.pages.specs.Pages.{home_of}
 use Rattle.lines.specs.Records.{line_at}
@@ -24,12 +22,12 @@ held_below s records line zero = false
 held_below s records line (suc n) = keeps_line s records line n || held_below s records line n
 
 -- record i mended: a held line is dropped if it breaks a rule alone, or with a lower line that is held still
-unfoldable pub mended : Shape → (ℕ → Home) → ℕ → Store → Store
+unfoldable pub mended : Shape → (ℕ → Option Home) → ℕ → Store → Store
 mended s home i x =
     cond (holds_at s x.records i && (breaks_alone s home x i || held_below s x.records (line_at x.records i).physical i)) (dropped i x) x
 
 -- all records mended, by rising place: of those below, the lines that are held still are those that are kept
-unfoldable pub repaired : Shape → (ℕ → Home) → Store → Store
+unfoldable pub repaired : Shape → (ℕ → Option Home) → Store → Store
 repaired s home x = sweep (mended s home) s.lines 0 x
 
 -- ---- which lines were dropped, by the records before and after, and how many
@@ -64,15 +62,15 @@ abbrev pub with_dropped : Report → ℕ → Report
 with_dropped r n = record { number = r.number; rule = r.rule; place = r.place; dropped = n }
 
 -- the lines repaired; what the checker says of the rules 3 to 5 before
-abbrev pub mended_lines : Shape → (ℕ → Home) → Store → Repaired
+abbrev pub mended_lines : Shape → (ℕ → Option Home) → Store → Repaired
 mended_lines s home x =
     repair_outcome (with_dropped (from_rule3 s home x) (dropped_count s x.records (repaired s home x).records)) (repaired s home x)
     (dropped_flags s x.records (repaired s home x).records)
 
 -- a doubled page is reported and nothing is changed
-unfoldable pub mended_pages : Shape → List ℕ → Store → List ℕ → Found → Repaired
-mended_pages s words x flags (At frame) = repair_outcome (report 2 frame) x flags
-mended_pages s words x flags Nothing = mended_lines s (home_of s words) x
+unfoldable pub mended_pages : Shape → List ℕ → Store → List ℕ → Option ℕ → Repaired
+mended_pages s words x flags (Some frame) = repair_outcome (report 2 frame) x flags
+mended_pages s words x flags None = mended_lines s (home_of s words) x
 
 -- and so are wrong lengths
 unfoldable pub repair_board : Shape → Board → List ℕ → Repaired

@@ -3,7 +3,6 @@
 
 ghost use Rattle.std.specs.Prelude.{◌≡◌, not, ◌&&◌, ◌+◌, ◌*◌, ◌≤◌, length};
 ghost use Rattle.board.specs.Lists.{bit};
-ghost use Rattle.board.specs.declared.Found.TheVariants.{Nothing};
 ghost use Rattle.board.specs.declared.Pending.{Pending};
 ghost use Rattle.pages.specs.Pages.{home_of};
 ghost use Rattle.lines.specs.Holds.{holds_at};
@@ -17,7 +16,7 @@ ghost use Rattle.machine.specs.Boards.{board};
 ghost use Rattle.stores.specs.Stores.{store};
 ghost use Rattle.stores.specs.Lent.{lent};
 
-use board::{Found, Shape};
+use board::{Shape};
 use dumps::{LENGTHS, PAGE_ONCE, Report};
 
 // Drops the line of record `i` unless it is to be kept, and says whether it did.
@@ -60,7 +59,7 @@ fn repair_lines(
     links: &mut [u64],
     dropped: &mut [u8],
 ) -> usize
-    requires { Sized s records.old cache.now memory.now × (length words.now ≡ s.frames) × (doubled_page s words.now ≡ Nothing) × (length keys.old ≡ s.lines) × (2 * s.lines ≤ length links.old) × (length dropped.old ≡ s.lines) }
+    requires { Sized s records.old cache.now memory.now × (length words.now ≡ s.frames) × (doubled_page s words.now ≡ None) × (length keys.old ≡ s.lines) × (2 * s.lines ≤ length links.old) × (length dropped.old ≡ s.lines) }
     ensures { (store records.new cache.now memory.now ≡ repaired s (home_of s words.now) (store records.old cache.now memory.now)) × (dropped.new ≡ dropped_flags s records.old records.new) × (result ≡ dropped_count s records.old records.new) }
 {
     dump_lines::place_keys(true, s, words, records, cache, memory, keys);
@@ -90,7 +89,7 @@ fn mend_lines(
     links: &mut [u64],
     dropped: &mut [u8],
 ) -> Report
-    requires { Sized s records.old cache.now memory.now × (length words.now ≡ s.frames) × (doubled_page s words.now ≡ Nothing) × (s.lines ≤ length keys.old) × (2 * s.lines ≤ length links.old) × (length dropped.old ≡ s.lines) }
+    requires { Sized s records.old cache.now memory.now × (length words.now ≡ s.frames) × (doubled_page s words.now ≡ None) × (s.lines ≤ length keys.old) × (2 * s.lines ≤ length links.old) × (length dropped.old ≡ s.lines) }
     ensures { repair_outcome result (store records.new cache.now memory.now) dropped.new ≡ mended_lines s (home_of s words.now) (store records.old cache.now memory.now) }
 {
     let lines = s.lines;
@@ -129,8 +128,8 @@ fn mend_pages(
 {
     let frames = s.frames;
     match dump_pages::doubled_page(s, words, &mut keys[0..frames], links) {
-        Found::At(f) => dumps::reported(PAGE_ONCE, f),
-        Found::Nothing => mend_lines(s, words, records, cache, memory, keys, links, dropped),
+        Some(f) => dumps::reported(PAGE_ONCE, f),
+        None => mend_lines(s, words, records, cache, memory, keys, links, dropped),
     }
 }
 

@@ -1,4 +1,5 @@
 -- A record that holds a line after a call held it before, or is the one that the call uses; and the set of a used record has a matrix.
+use Rattle.std.specs.Prelude.{Option, Some, None}
 use Prim.Native.Nat.{ℕ, ◌*◌, ◌<◌}
 use mathlib.Core.Path.{◌≡◌, ◌∙◌, refl, sym}
 use mathlib.Core.Bool.{Bool, true, false, ◌&&◌, cond}
@@ -14,8 +15,6 @@ use Rattle.address.specs.declared.Region.{Region}
 use Rattle.address.specs.declared.Region.TheVariants.{Uncached, Cached, PageTable, Ordinary}
 use Rattle.board.specs.Shapes.{set_lines}
 use Rattle.board.specs.declared.Shape.{Shape}
-use Rattle.board.specs.declared.Found.{Found}
-use Rattle.board.specs.declared.Found.TheVariants.{At, Nothing}
 use Rattle.board.proofs.Bools.{clash, and_right}
 use Rattle.board.proofs.Shapes.{matrices-four}
 use Rattle.lines.specs.Records.{line_at, no_line, new_line}
@@ -84,48 +83,48 @@ module _ (s : Shape) (v : Visit) (i name : ℕ) where
 
 module _ (s : Shape) (b : Board) where
   -- a record that holds the line of a name in the store x does so on the board, but for the record that is used
-  abbrev Keeps : Found → Store → Type 0
+  abbrev Keeps : Option ℕ → Store → Type 0
   Keeps would x = (i name : ℕ) → is_record i would ≡ false → holds_name s x.records name i ≡ true → holds_name s b.store.records name i ≡ true
 
-  keeps-table : (would : Found) (rows : List Row) (d : Outcome) → (Passed rows → Keeps would d.after.store) → Keeps would (by_table (refused b) rows d).after.store
+  keeps-table : (would : Option ℕ) (rows : List Row) (d : Outcome) → (Passed rows → Keeps would d.after.store) → Keeps would (by_table (refused b) rows d).after.store
   keeps-table would rows d h = table-cases (λ (o : Outcome). Keeps would o.after.store) (refused b) (λ n i name u g. g) rows d h
 
   -- an access alters one record only
-  keeps-only : (to : ℕ) (x : Store) → OnlyAt (eqb to) b.store x → Keeps (At to) x
+  keeps-only : (to : ℕ) (x : Store) → OnlyAt (eqb to) b.store x → Keeps (Some to) x
   unfolding is_record
   keeps-only to x o i name n h =
       sym (named-same s name i x.records b.store.records (o.same_records i (ne_eqb to i (λ e. eqb-false i to n (sym e))))) ∙ h
 
-  keeps-loaded : (victim tagged line : ℕ) (write : Bool) (found : Found) → Keeps (room_by victim found) (loaded_by s victim tagged line write b.store found)
+  keeps-loaded : (victim tagged line : ℕ) (write : Bool) (found : Option ℕ) → Keeps (room_by victim found) (loaded_by s victim tagged line write b.store found)
   unfolding is_record room_by loaded_by inserted noted filled
-  keeps-loaded victim tagged line write (At j) i name n h = h
-  keeps-loaded victim tagged line write Nothing i name n h =
+  keeps-loaded victim tagged line write (Some j) i name n h = h
+  keeps-loaded victim tagged line write None i name n h =
       let e = line-put-other b.store.records victim (new_line tagged line write) i (λ y. eqb-false i victim n (sym y)) in
       sym (named-same s name i _ b.store.records e) ∙ (rw (written-records s victim b.store) at h)
 
   -- a used record is in one of the sets
-  abbrev Inside : Found → Type 0
-  Inside would = 0 < s.ways → 0 < sets_of s → (i : ℕ) → would ≡ At i → set_at s i < sets_of s
+  abbrev Inside : Option ℕ → Type 0
+  Inside would = 0 < s.ways → 0 < sets_of s → (i : ℕ) → would ≡ Some i → set_at s i < sets_of s
 
-  inside : (to name : ℕ) → (0 < s.ways → set_at s to ≡ place_of s name) → Inside (At to)
+  inside : (to name : ℕ) → (0 < s.ways → set_at s to ≡ place_of s name) → Inside (Some to)
   inside to name e w p i q = let z : i ≡ to = cc in rw (z, e w) (mod-lt name p)
 
-  inside-none : Inside Nothing
+  inside-none : Inside None
   inside-none w p i q = absurd (let z : ◌≡◌ {A = ℕ} 0 1 = cc in omega arith)
 
   -- what a call leaves that uses this record if it is done
-  record Leaves (would : Found) (o : Outcome) : Type 0 where
+  record Leaves (would : Option ℕ) (o : Outcome) : Type 0 where
     keeps : Keeps would o.after.store
     in_sets : Inside would
 
   -- no use
-  leaves_none : (o : Outcome) → Keeps Nothing o.after.store → Leaves Nothing o
+  leaves_none : (o : Outcome) → Keeps None o.after.store → Leaves None o
   leaves_none o h = record { keeps = h; in_sets = inside-none }
 
-  leaves-idle : (rows : List Row) (d : Outcome) → (Passed rows → Keeps Nothing d.after.store) → Leaves Nothing (by_table (refused b) rows d)
-  leaves-idle rows d h = leaves_none (by_table (refused b) rows d) (keeps-table Nothing rows d h)
+  leaves-idle : (rows : List Row) (d : Outcome) → (Passed rows → Keeps None d.after.store) → Leaves None (by_table (refused b) rows d)
+  leaves-idle rows d h = leaves_none (by_table (refused b) rows d) (keeps-table None rows d h)
 
-  leaves_at : (g : Global) (o : Outcome) → OnlyAt (eqb (record_to s b g)) b.store o.after.store → Leaves (At (record_to s b g)) o
+  leaves_at : (g : Global) (o : Outcome) → OnlyAt (eqb (record_to s b g)) b.store o.after.store → Leaves (Some (record_to s b g)) o
   leaves_at g o h = record { keeps = keeps-only (record_to s b g) o.after.store h; in_sets = inside (record_to s b g) (name_of g) (demand2-place.own_set s b g) }
 
   leaves-access : (a : Access) (g : Global) (r : Region) → region_of g ≡ r → Leaves (reached_in (record_to s b g) r) (supervisor_access s b a g)
@@ -135,7 +134,7 @@ module _ (s : Shape) (b : Board) where
   leaves-access a g PageTable q = leaves-idle _ _ (rw q (λ p i name n h. h))
   leaves-access a g Ordinary q = leaves_at g (supervisor_access s b a g) (demand2-place.supervisor_place s b a g)
 
-  keeps-visit : (v : Visit) → (row1 s b).applies ≡ false → Keeps Nothing (visited_all s v b.store)
+  keeps-visit : (v : Visit) → (row1 s b).applies ≡ false → Keeps None (visited_all s v b.store)
   keeps-visit v f i name n h = visits-named s v i name b.store (board-shaped s b (not-false _ f)).records_are h
 
   leaves-loaded : (line : ℕ) → Leaves (would_use s b (supervisor (load_and_map line))) (board.load_and_map s b line)
@@ -145,9 +144,9 @@ module _ (s : Shape) (b : Board) where
     in_sets = go (holder_of s b.store.records b.tag.name);
   }
     where
-      go : (found : Found) → Inside (room_by (victim_of s b.uses b.store.records b.tag.name) found)
-      go (At j) = inside-none
-      go Nothing = inside _ b.tag.name (victim-set s b.uses b.store.records b.tag.name)
+      go : (found : Option ℕ) → Inside (room_by (victim_of s b.uses b.store.records b.tag.name) found)
+      go (Some j) = inside-none
+      go None = inside _ b.tag.name (victim-set s b.uses b.store.records b.tag.name)
 
   leaves-supervise : (c : Supervisor) → Leaves (would_use s b (supervisor c)) (supervise s b c)
   unfolding would_use supervise board.attach board.detach board.map_page board.unmap board.protect board.move_page board.flush_all board.tag board.drop_tag mapped unmapped protected moved
@@ -177,7 +176,7 @@ module _ (s : Shape) (b : Board) where
     unfolding used_by
     kept-named i name n h = go (eqb (step s b k).answer.number 0) refl n
       where
-        go : (t : Bool) → eqb (step s b k).answer.number 0 ≡ t → is_record i (cond t (would_use s b k) Nothing) ≡ false → holds_name s b.store.records name i ≡ true
+        go : (t : Bool) → eqb (step s b k).answer.number 0 ≡ t → is_record i (cond t (would_use s b k) None) ≡ false → holds_name s b.store.records name i ≡ true
         go true e n = (leaves-step k).keeps i name n h
         go false e n = rw ((demand1.calls s b k).nothing_changed (eqb-false _ 0 e)) at h
 
@@ -187,7 +186,7 @@ module _ (s : Shape) (b : Board) where
         let name = (line_at (step s b k).after.store.records i).name in
         and_right (eqb (line_at b.store.records i).name name) _ (kept-named i name n (rw (h, eq-eqb name name refl)))
 
-    module _ (i : ℕ) (u : used_by s b k ≡ At i) where
+    module _ (i : ℕ) (u : used_by s b k ≡ Some i) where
       -- a call that uses a record was not refused by 1
       pub used-fits : fits_board s b ≡ true
       unfolding used_by
@@ -197,11 +196,11 @@ module _ (s : Shape) (b : Board) where
           go true e = e
           go false e = let v = rw (unfit-call s b b.store.memory (record { no = e; same_length = refl }) k).0 at u in absurd (let z : ◌≡◌ {A = ℕ} 0 1 = cc in omega arith)
 
-      used-would : would_use s b k ≡ At i
+      used-would : would_use s b k ≡ Some i
       unfolding used_by
       used-would = go (eqb (step s b k).answer.number 0) u
         where
-          go : (t : Bool) → cond t (would_use s b k) Nothing ≡ At i → would_use s b k ≡ At i
+          go : (t : Bool) → cond t (would_use s b k) None ≡ Some i → would_use s b k ≡ Some i
           go true e = e
           go false e = absurd (let z : ◌≡◌ {A = ℕ} 0 1 = cc in omega arith)
 

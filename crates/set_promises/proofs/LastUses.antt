@@ -1,6 +1,7 @@
 -- What the matrices are after a run: call by call every matrix tells the order of the last uses in its set where they were in the run (the matrix laws of `sets`),
 -- and no two records were used by one call. So the victim of a full set is the line whose last use is oldest, once each was used; and from a fresh board
 -- every record that holds a line has been used.
+use Rattle.std.specs.Prelude.{Option, Some, None}
 use Prim.Native.Nat.{ℕ, suc, ◌+◌, ◌*◌, ◌/◌, ◌%◌, ◌≤◌, ◌<◌}
 use mathlib.Core.Logic.{◌≢◌}
 use mathlib.Core.Path.{◌≡◌, ◌∙◌, refl, sym}
@@ -13,8 +14,6 @@ use lib.Seq.{get_or-set_same, get_or-set_other}
 use borrow.Author.Tests.{eqb-true, eqb-false, eq-eqb, ne_eqb, le-ltb}
 use Rattle.board.specs.Shapes.{set_lines}
 use Rattle.board.specs.declared.Shape.{Shape}
-use Rattle.board.specs.declared.Found.{Found}
-use Rattle.board.specs.declared.Found.TheVariants.{At, Nothing}
 use Rattle.board.proofs.Bools.{cond_both}
 use Rattle.board.proofs.Tables.{every_below, every-below}
 use Rattle.sets.specs.Matrices.{Matrix, row_of, entry_at, Square, fresh_matrix, used, fewest}
@@ -129,17 +128,17 @@ module _ (s : Shape) (start : Uses) (b : Board) (n : ℕ) (last : ℕ → ℕ) (
 
   -- after any call: c is the board after it, f the record that it uses
   module _ (four : s.ways ≡ set_lines) (c : Board) where
-    next-lasts : (f : Found) → c.uses ≡ used_if s b.uses f → ((i : ℕ) → f ≡ At i → set_at s i < length b.uses)
+    next-lasts : (f : Option ℕ) → c.uses ≡ used_if s b.uses f → ((i : ℕ) → f ≡ Some i → set_at s i < length b.uses)
         → Lasts s start c (suc n) (λ i. cond (is_record i f) (suc n) (last i))
     unfolding used_if is_record used_at
-    next-lasts Nothing u own = record {
+    next-lasts None u own = record {
       size = rw u x.size;
       since = rw u x.since;
       until = λ i. omega (arith, x.until i);
       apart = x.apart;
       inside = x.inside;
     }
-    next-lasts (At r) u own =
+    next-lasts (Some r) u own =
         let there : set_at s r < length start = rw x.size at (own r refl) in
         let low : r / 4 < length start = rw four at there in
         record {

@@ -1,4 +1,5 @@
 -- The record that a call uses holds the call's own line after it; what the other records hold they held before (`Held.antt`).
+use Rattle.std.specs.Prelude.{Option, Some, None}
 use Prim.Native.Nat.{ℕ, ◌*◌, ◌%◌, ◌<◌}
 use mathlib.Core.Path.{◌≡◌, ◌∙◌, refl}
 use mathlib.Core.Bool.{Bool, true, false, cond}
@@ -13,11 +14,9 @@ use Rattle.address.specs.declared.Effective.{Effective}
 use Rattle.address.specs.declared.Global.{Global}
 use Rattle.address.specs.declared.Region.{Region}
 use Rattle.address.specs.declared.Region.TheVariants.{Uncached, Cached, PageTable, Ordinary}
+use Rattle.board.specs.Homes.{at_line}
 use Rattle.board.specs.declared.Shape.{Shape}
-use Rattle.board.specs.declared.Found.{Found}
-use Rattle.board.specs.declared.Found.TheVariants.{At, Nothing}
 use Rattle.board.specs.declared.Home.{Home}
-use Rattle.board.specs.declared.Home.TheVariants.{Line as HomeLine, Nowhere}
 use Rattle.board.proofs.Bools.{cond_both}
 use Rattle.pages.specs.Pages.{home_of}
 use Rattle.lines.specs.Records.{line_at, new_line, changed_line}
@@ -78,20 +77,20 @@ module _ (s : Shape) (name i : ℕ) where
 
 -- ---- each call that uses a record
 
-no_record : (i : ℕ) → Nothing ≡ At i → ⊥
+no_record : (i : ℕ) → None ≡ Some i → ⊥
 no_record i e = absurd (let z : ◌≡◌ {A = ℕ} 0 1 = cc in omega arith)
 
-never : (i : ℕ) (t : Bool) → cond t Nothing Nothing ≡ At i → ⊥
+never : (i : ℕ) (t : Bool) → cond t None None ≡ Some i → ⊥
 never i true e = no_record i e
 never i false e = no_record i e
 
 module _ (s : Shape) (b : Board) where
   -- the record that an outcome uses, if it is done, holds the line of this name
-  abbrev Lands : ℕ → Found → Outcome → Type 0
-  Lands name would o = (i : ℕ) → cond (eqb o.answer.number 0) would Nothing ≡ At i → holds_name s o.after.store.records name i ≡ true
+  abbrev Lands : ℕ → Option ℕ → Outcome → Type 0
+  Lands name would o = (i : ℕ) → cond (eqb o.answer.number 0) would None ≡ Some i → holds_name s o.after.store.records name i ≡ true
 
   -- a refusal has no number 0
-  lands-table : (name : ℕ) (would : Found) (rows : List Row) (d : Outcome) → Rises rows → (Passed rows → Lands name would d) → Lands name would (by_table (refused b) rows d)
+  lands-table : (name : ℕ) (would : Option ℕ) (rows : List Row) (d : Outcome) → Rises rows → (Passed rows → Lands name would d) → Lands name would (by_table (refused b) rows d)
   lands-table name would rows d r h = go (by_table (refused b) rows d) (tabled (refused b) d 1 rows r)
     where
       go : (o : Outcome) → Tabled (refused b) 1 rows d o → Lands name would o
@@ -116,31 +115,31 @@ module _ (s : Shape) (b : Board) (fits : fits_board s b ≡ true) where
     abbrev to : ℕ
     to = victim_for s b.uses b.store.records g
 
-    abbrev by : Way → Outcome
+    abbrev by : Option Way → Outcome
     by way = on_board b (touched (accessed_by s to (name_of g) (g.0 % 16) a b.store way) (uses_by s to b.uses way))
 
-    lands-home : (home : Home) → home_of s b.words (name_of g) ≡ home → Lands s b (name_of g) (At to) (by (way_by_home home))
+    lands-home : (home : Option Home) → home_of s b.words (name_of g) ≡ home → Lands s b (name_of g) (Some to) (by (way_by_home home))
     unfolding accessed_by performed_on way_by_home
-    lands-home (HomeLine p w) h i e =
+    lands-home (Some hm) h i e =
         let q : i ≡ to = cc in
-        let inside = (board-homes s b fits).inside (name_of g) p w h in
+        let inside = (board-homes s b fits).inside (name_of g) hm.line hm.write h in
         let c = (board-shaped s b fits).records_are in
         let l = victim-low (name_of g) in
         let o = victim-own (name_of g) in
-        rw q (performed-named s (name_of g) to _ a (inserted s to (name_of g) p w b.store).records _ ((sizes-inserted s to (name_of g) p w b.store).records ∙ c)
-        (inserted-holds s (name_of g) to p w b.store c l o inside) (rw (inserted-says s (name_of g) to p w b.store c l o inside) refl))
-    lands-home Nowhere h i e = absurd (no_record i e)
+        rw q (performed-named s (name_of g) to _ a (inserted s to (name_of g) hm.line hm.write b.store).records _ ((sizes-inserted s to (name_of g) hm.line hm.write b.store).records ∙ c)
+        (inserted-holds s (name_of g) to hm.line hm.write b.store c l o inside) (rw (inserted-says s (name_of g) to hm.line hm.write b.store c l o inside) refl))
+    lands-home None h i e = absurd (no_record i e)
 
-    lands-found : (found : Found) → holder_of s b.store.records (name_of g) ≡ found
-        → Lands s b (name_of g) (At (record_by to found)) (by (way_by b.store.records (home_of s b.words (name_of g)) found))
+    lands-found : (found : Option ℕ) → holder_of s b.store.records (name_of g) ≡ found
+        → Lands s b (name_of g) (Some (record_by to found)) (by (way_by b.store.records (home_of s b.words (name_of g)) found))
     unfolding accessed_by performed_on way_by record_by
-    lands-found (At j) h i e =
+    lands-found (Some j) h i e =
         let q : i ≡ j = cc in
         let z = holder-some s b.store.records (name_of g) j h in
         rw q (performed-named s (name_of g) j _ a b.store.records _ (board-shaped s b fits).records_are z.0 z.1)
-    lands-found Nothing h i e = lands-home (home_of s b.words (name_of g)) refl i e
+    lands-found None h i e = lands-home (home_of s b.words (name_of g)) refl i e
 
-    lands-accessed : Lands s b (name_of g) (At (record_to s b g)) (on_board b (accessed s b.words g a b.store b.uses))
+    lands-accessed : Lands s b (name_of g) (Some (record_to s b g)) (on_board b (accessed s b.words g a b.store b.uses))
     unfolding accessed way_of
     lands-accessed = lands-found (holder_of s b.store.records (name_of g)) refl
 
@@ -151,11 +150,11 @@ module _ (s : Shape) (b : Board) (fits : fits_board s b ≡ true) where
     lands-region PageTable i e = absurd (no_record i e)
     lands-region Ordinary i e = lands-accessed i e
 
-  lands-loaded : (name p : ℕ) (w : Bool) → p < page_lines * s.frames → (found : Found) (i : ℕ) → room_by (victim name) found ≡ At i
+  lands-loaded : (name p : ℕ) (w : Bool) → p < page_lines * s.frames → (found : Option ℕ) (i : ℕ) → room_by (victim name) found ≡ Some i
       → holds_name s (loaded_by s (victim name) name p w b.store found).records name i ≡ true
   unfolding room_by loaded_by
-  lands-loaded name p w h (At j) i e = absurd (no_record i e)
-  lands-loaded name p w h Nothing i e = let q : i ≡ victim name = cc in rw q (victim-named name p w h)
+  lands-loaded name p w h (Some j) i e = absurd (no_record i e)
+  lands-loaded name p w h None i e = let q : i ≡ victim name = cc in rw q (victim-named name p w h)
 
   -- ---- each call
 

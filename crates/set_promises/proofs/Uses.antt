@@ -1,4 +1,5 @@
 -- What a use makes of a matrix: the law of `sets`. Which calls change which matrices: by the tables of the calls, and what is done where no row applies.
+use Rattle.std.specs.Prelude.{Option, Some, None}
 use Prim.Native.Nat.{ℕ, ◌%◌}
 use mathlib.Core.Path.{◌≡◌, refl}
 use mathlib.Core.Bool.{Bool, cond}
@@ -10,11 +11,9 @@ use Rattle.address.specs.Addresses.{name_of, region_of}
 use Rattle.address.specs.declared.Global.{Global}
 use Rattle.address.specs.declared.Region.{Region}
 use Rattle.address.specs.declared.Region.TheVariants.{Uncached, Cached, PageTable, Ordinary}
+use Rattle.board.specs.Homes.{at_line}
 use Rattle.board.specs.declared.Shape.{Shape}
-use Rattle.board.specs.declared.Found.{Found}
-use Rattle.board.specs.declared.Found.TheVariants.{At, Nothing}
 use Rattle.board.specs.declared.Home.{Home}
-use Rattle.board.specs.declared.Home.TheVariants.{Line as HomeLine, Nowhere}
 use Rattle.board.proofs.Bools.{cond_both}
 use Rattle.pages.specs.Pages.{home_of}
 use Rattle.sets.proofs.Orders.{used-square, used-entry}
@@ -42,11 +41,11 @@ entries-told = record { entries = λ m r a b x h i j. used-entry m x r h a b i j
 
 module _ (s : Shape) (b : Board) where
   -- the matrices of an outcome, by the record that it uses if it is done
-  abbrev ByUse : Found → Outcome → Type 0
-  ByUse would o = o.after.uses ≡ used_if s b.uses (cond (eqb o.answer.number 0) would Nothing)
+  abbrev ByUse : Option ℕ → Outcome → Type 0
+  ByUse would o = o.after.uses ≡ used_if s b.uses (cond (eqb o.answer.number 0) would None)
 
   -- a refusal has no number 0
-  by-table : (would : Found) (rows : List Row) (d : Outcome) → Rises rows → ByUse would d → ByUse would (by_table (refused b) rows d)
+  by-table : (would : Option ℕ) (rows : List Row) (d : Outcome) → Rises rows → ByUse would d → ByUse would (by_table (refused b) rows d)
   unfolding used_if
   by-table would rows d r h = go (by_table (refused b) rows d) (tabled (refused b) d 1 rows r)
     where
@@ -55,11 +54,11 @@ module _ (s : Shape) (b : Board) where
       go o (stopped n l _ _) = rw (ne_eqb n 0 (omega arith))
 
   -- what uses no record, done or refused
-  idle : (o : Outcome) → o.after.uses ≡ b.uses → ByUse Nothing o
+  idle : (o : Outcome) → o.after.uses ≡ b.uses → ByUse None o
   unfolding used_if
-  idle o e = rw e (cond_both (λ (f : Found). b.uses ≡ used_if s b.uses f) (eqb o.answer.number 0) _ _ refl refl)
+  idle o e = rw e (cond_both (λ (f : Option ℕ). b.uses ≡ used_if s b.uses f) (eqb o.answer.number 0) _ _ refl refl)
 
-  idle-table : (rows : List Row) (d : Outcome) → d.after.uses ≡ b.uses → ByUse Nothing (by_table (refused b) rows d)
+  idle-table : (rows : List Row) (d : Outcome) → d.after.uses ≡ b.uses → ByUse None (by_table (refused b) rows d)
   idle-table rows d e = idle (by_table (refused b) rows d) (table-cases (λ (o : Outcome). o.after.uses ≡ b.uses) (refused b) (λ n. refl) rows d (λ _. e))
 
   -- ---- accesses
@@ -68,20 +67,20 @@ module _ (s : Shape) (b : Board) where
     abbrev to : ℕ
     to = victim_for s b.uses b.store.records g
 
-    abbrev by : Way → Outcome
+    abbrev by : Option Way → Outcome
     by way = on_board b (touched (accessed_by s to (name_of g) (g.0 % 16) a b.store way) (uses_by s to b.uses way))
 
-    by_home : (home : Home) → ByUse (At to) (by (way_by_home home))
+    by_home : (home : Option Home) → ByUse (Some to) (by (way_by_home home))
     unfolding accessed_by performed_on uses_by way_by_home used_if
-    by_home (HomeLine line write) = refl
-    by_home Nowhere = refl
+    by_home (Some hm) = refl
+    by_home None = refl
 
-    by-found : (found : Found) → ByUse (At (record_by to found)) (by (way_by b.store.records (home_of s b.words (name_of g)) found))
+    by-found : (found : Option ℕ) → ByUse (Some (record_by to found)) (by (way_by b.store.records (home_of s b.words (name_of g)) found))
     unfolding accessed_by performed_on uses_by way_by record_by used_if
-    by-found (At i) = refl
-    by-found Nothing = by_home (home_of s b.words (name_of g))
+    by-found (Some i) = refl
+    by-found None = by_home (home_of s b.words (name_of g))
 
-    by-accessed : ByUse (At (record_to s b g)) (on_board b (accessed s b.words g a b.store b.uses))
+    by-accessed : ByUse (Some (record_to s b g)) (on_board b (accessed s b.words g a b.store b.uses))
     unfolding accessed way_of
     by-accessed = by-found (holder_of s b.store.records (name_of g))
 
@@ -94,10 +93,10 @@ module _ (s : Shape) (b : Board) where
 
   -- ---- load-and-map
 
-  loaded-by : (victim : ℕ) (found : Found) → loaded_uses s victim b.uses found ≡ used_if s b.uses (room_by victim found)
+  loaded-by : (victim : ℕ) (found : Option ℕ) → loaded_uses s victim b.uses found ≡ used_if s b.uses (room_by victim found)
   unfolding loaded_uses room_by used_if
-  loaded-by victim (At i) = refl
-  loaded-by victim Nothing = refl
+  loaded-by victim (Some i) = refl
+  loaded-by victim None = refl
 
   by-loaded : (line : ℕ) (write : Bool)
       → ByUse (room_by (victim_of s b.uses b.store.records b.tag.name) (holder_of s b.store.records b.tag.name))
@@ -129,9 +128,9 @@ module _ (s : Shape) (b : Board) where
   -- ---- drops
 
   -- a call that would use none leaves every matrix
-  left : (k : Call) → would_use s b k ≡ Nothing → (step s b k).after.uses ≡ b.uses
+  left : (k : Call) → would_use s b k ≡ None → (step s b k).after.uses ≡ b.uses
   unfolding used_by used_if
-  left k e = rw (by-step k, e) (cond_both (λ (f : Found). used_if s b.uses f ≡ b.uses) (eqb (step s b k).answer.number 0) _ _ refl refl)
+  left k e = rw (by-step k, e) (cond_both (λ (f : Option ℕ). used_if s b.uses f ≡ b.uses) (eqb (step s b k).answer.number 0) _ _ refl refl)
 
 pub uses-told : UsesTold
 unfolding would_use

@@ -1,4 +1,5 @@
 -- The victim of a set of four: the lowest record that holds nothing, else the lowest whose row has the fewest ones.
+use Rattle.std.specs.Prelude.{Option, Some, None}
 use Prim.Native.Nat.{ℕ, ◌+◌, ◌*◌, ◌/◌, ◌%◌, ◌≤◌, ◌<◌}
 use mathlib.Core.Path.{◌≡◌, ◌∙◌, refl, sym}
 use mathlib.Core.Bool.{Bool, true, false}
@@ -8,8 +9,6 @@ use lib.Dec.{leb}
 use borrow.Author.Tests.{leb-true, leb-false, not-true}
 use Rattle.board.specs.Shapes.{set_lines}
 use Rattle.board.specs.declared.Shape.{Shape}
-use Rattle.board.specs.declared.Found.{Found}
-use Rattle.board.specs.declared.Found.TheVariants.{At, Nothing}
 use Rattle.board.proofs.Bools.{clash}
 use Rattle.board.proofs.Searches.{first-at, first-nothing}
 use Rattle.sets.specs.Matrices.{Matrix, row_of, ones_of, fewest}
@@ -35,11 +34,11 @@ module _ (s : Shape) (four : s.ways ≡ set_lines) (uses : Uses) (records : List
       to : (j : ℕ) → set_at s j ≡ place → j < first_at s place + s.ways
       to j q = let z : j / 4 ≡ place = rw four at q in rw four (omega arith)
 
-      go : (f : Found) → empty_at s records place ≡ f → LowestOf s place (victim_by s uses place f) (λ j. holds_at s records j ≡ false)
-      go (At v) q =
+      go : (f : Option ℕ) → empty_at s records place ≡ f → LowestOf s place (victim_by s uses place f) (λ j. holds_at s records j ≡ false)
+      go (Some v) q =
           let x = first-at (is_empty s records) (first_at s place) s.ways v q in
           record { in_set = set_is s place v (found_in s (is_empty s records) place v q); passes = not-true _ x.passes; lowest = λ j p n. x.lowest j (from j p) (rw n) }
-      go Nothing q = clash _ (rw h) (first-nothing (is_empty s records) (first_at s place) s.ways i q (from i e) (to i e))
+      go None q = clash _ (rw h) (first-nothing (is_empty s records) (first_at s place) s.ways i q (from i e) (to i e))
 
   -- ---- a full set
 
@@ -51,11 +50,11 @@ module _ (s : Shape) (four : s.ways ≡ set_lines) (uses : Uses) (records : List
     unfolding victim_at victim_by is_empty
     full-victim = go (empty_at s records place) refl
       where
-        go : (f : Found) → empty_at s records place ≡ f → victim_by s uses place f ≡ place * 4 + fewest matrix
-        go (At v) q =
+        go : (f : Option ℕ) → empty_at s records place ≡ f → victim_by s uses place f ≡ place * 4 + fewest matrix
+        go (Some v) q =
             let h = (first-at (is_empty s records) (first_at s place) s.ways v q).passes in
             clash _ (full v (set_is s place v (found_in s (is_empty s records) place v q))) (not-true _ h)
-        go Nothing q = rw four
+        go None q = rw four
 
     -- the record that is given up, and the row of each record of the set
     abbrev given : ℕ

@@ -2,7 +2,7 @@
 -- line whose last use is oldest; on any run from any other board too, once each line of the set was used. Last uses are told here by the calls: the record
 -- that each call uses, and the last call of the run that used a record. What a matrix is after a run is told by them.
 -- (A line that comes into a record is a use of it, so the last use of a record that holds a line is a use of that line: `LinesUsed`.)
-use Rattle.std.specs.Prelude.{ℕ, suc, ◌+◌, ◌*◌, ◌<◌, ◌≢◌, ◌≡◌, Bool, true, false, cond, List, [], ◌∷◌, eqb, ltb, length}
+use Rattle.std.specs.Prelude.{ℕ, suc, ◌+◌, ◌*◌, ◌<◌, ◌≢◌, ◌≡◌, Bool, true, false, cond, List, [], ◌∷◌, eqb, ltb, length, Option, Some, None}
 use Rattle.address.specs.Addresses.{name_of, region_of}
 use Rattle.address.specs.declared.Effective.{Effective}
 use Rattle.address.specs.declared.Global.{Global}
@@ -10,8 +10,6 @@ use Rattle.address.specs.declared.Region.{Region}
 use Rattle.address.specs.declared.Region.TheVariants.{Uncached, Cached, PageTable, Ordinary}
 use Rattle.board.specs.Shapes.{set_lines}
 use Rattle.board.specs.declared.Shape.{Shape}
-use Rattle.board.specs.declared.Found.{Found}
-use Rattle.board.specs.declared.Found.TheVariants.{At, Nothing}
 use Rattle.sets.specs.Matrices.{entry_at, Square}
 use Rattle.lines.specs.Holds.{place_of, set_at, holds_at, holds_name}
 use Rattle.lines.specs.Victims.{matrix_of, victim_of, room_for}
@@ -24,44 +22,44 @@ use Rattle.promises.specs.Demand2.{record_to}
 -- ---- uses
 
 -- a supervisor's access past the cache is no use
-unfoldable pub reached_in : ℕ → Region → Found
-reached_in i Uncached = Nothing
-reached_in i Cached = At i
-reached_in i PageTable = Nothing
-reached_in i Ordinary = At i
+unfoldable pub reached_in : ℕ → Region → Option ℕ
+reached_in i Uncached = None
+reached_in i Cached = Some i
+reached_in i PageTable = None
+reached_in i Ordinary = Some i
 
 -- the record that a call uses, if it is done: an access the one that holds its line or is filled, load-and-map the one that it fills (of a line that is held it fills none, and is no use); others none
-unfoldable pub would_use : Shape → Board → Call → Found
-would_use s b (user process a e) = At (record_to s b (user_global b.slots process e))
+unfoldable pub would_use : Shape → Board → Call → Option ℕ
+would_use s b (user process a e) = Some (record_to s b (user_global b.slots process e))
 would_use s b (supervisor (access a g)) = reached_in (record_to s b g) (region_of g)
-would_use s b (supervisor (attach process slot segment write)) = Nothing
-would_use s b (supervisor (detach process slot)) = Nothing
-would_use s b (supervisor (map page frame write)) = Nothing
-would_use s b (supervisor (unmap page)) = Nothing
-would_use s b (supervisor (protect page write)) = Nothing
-would_use s b (supervisor (move page new)) = Nothing
-would_use s b (supervisor flush_all) = Nothing
-would_use s b (supervisor (tag name)) = Nothing
+would_use s b (supervisor (attach process slot segment write)) = None
+would_use s b (supervisor (detach process slot)) = None
+would_use s b (supervisor (map page frame write)) = None
+would_use s b (supervisor (unmap page)) = None
+would_use s b (supervisor (protect page write)) = None
+would_use s b (supervisor (move page new)) = None
+would_use s b (supervisor flush_all) = None
+would_use s b (supervisor (tag name)) = None
 would_use s b (supervisor (load_and_map line)) =
     room_for s b.uses b.store.records b.tag.name
-would_use s b (supervisor drop_tag) = Nothing
+would_use s b (supervisor drop_tag) = None
 
 -- a refused call uses none
-unfoldable pub used_by : Shape → Board → Call → Found
-used_by s b k = cond (eqb (step s b k).answer.number 0) (would_use s b k) Nothing
+unfoldable pub used_by : Shape → Board → Call → Option ℕ
+used_by s b k = cond (eqb (step s b k).answer.number 0) (would_use s b k) None
 
 -- that record is i
-unfoldable pub is_record : ℕ → Found → Bool
-is_record i (At j) = eqb i j
-is_record i Nothing = false
+unfoldable pub is_record : ℕ → Option ℕ → Bool
+is_record i (Some j) = eqb i j
+is_record i None = false
 
 -- a use of a record is a use of a line: whatever the board, the record that a call uses holds the call's own line after it (the other calls use none)
 pub record LinesUsed : Type 0 where
-  pub by_user : (s : Shape) (b : Board) (process : ℕ) (a : Access) (e : Effective) (i : ℕ) → used_by s b (user process a e) ≡ At i
+  pub by_user : (s : Shape) (b : Board) (process : ℕ) (a : Access) (e : Effective) (i : ℕ) → used_by s b (user process a e) ≡ Some i
       → holds_name s (step s b (user process a e)).after.store.records (name_of (user_global b.slots process e)) i ≡ true
-  pub by_supervisor : (s : Shape) (b : Board) (a : Access) (g : Global) (i : ℕ) → used_by s b (supervisor (access a g)) ≡ At i
+  pub by_supervisor : (s : Shape) (b : Board) (a : Access) (g : Global) (i : ℕ) → used_by s b (supervisor (access a g)) ≡ Some i
       → holds_name s (step s b (supervisor (access a g))).after.store.records (name_of g) i ≡ true
-  pub by_load_and_map : (s : Shape) (b : Board) (line i : ℕ) → used_by s b (supervisor (load_and_map line)) ≡ At i
+  pub by_load_and_map : (s : Shape) (b : Board) (line i : ℕ) → used_by s b (supervisor (load_and_map line)) ≡ Some i
       → holds_name s (step s b (supervisor (load_and_map line))).after.store.records b.tag.name i ≡ true
   -- any other record holds after a call only a line that it held before
   pub others : (s : Shape) (b : Board) (k : Call) (i name : ℕ) → is_record i (used_by s b k) ≡ false

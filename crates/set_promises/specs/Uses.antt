@@ -1,9 +1,7 @@
 -- CR 4: what a use makes of a matrix, which calls change which matrices, and that drops leave them. (A refused call leaves everything: demand 1)
-use Rattle.std.specs.Prelude.{ℕ, ◌<◌, ◌≡◌, Bool, cond, eqb}
+use Rattle.std.specs.Prelude.{ℕ, ◌<◌, ◌≡◌, Bool, cond, eqb, Option, Some, None}
 use Rattle.board.specs.Shapes.{set_lines}
 use Rattle.board.specs.declared.Shape.{Shape}
-use Rattle.board.specs.declared.Found.{Found}
-use Rattle.board.specs.declared.Found.TheVariants.{At, Nothing}
 use Rattle.sets.specs.Matrices.{Matrix, entry_at, Square, used}
 use Rattle.lines.specs.Victims.{Uses, used_in}
 use Rattle.machine.specs.Boards.{Board}
@@ -11,9 +9,9 @@ use Rattle.promises.specs.Runs.{map, unmap, protect, move, flush_all, Call, supe
 use Rattle.set_promises.specs.LastUses.{used_by}
 
 -- a use of the record, if there is one
-unfoldable pub used_if : Shape → Uses → Found → Uses
-used_if s uses (At i) = used_in s uses i
-used_if s uses Nothing = uses
+unfoldable pub used_if : Shape → Uses → Option ℕ → Uses
+used_if s uses (Some i) = used_in s uses i
+used_if s uses None = uses
 
 -- of any matrix of four rows of four, wild ones too
 pub record EntriesTold : Type 0 where

@@ -1,5 +1,6 @@
 -- What a record holds, and what the searches for the record of a name and of a physical line find.
 -- Stands on the record laws of `lines` and on Searches.
+use Rattle.std.specs.Prelude.{Option, Some, None}
 use Prim.Native.Nat.{ℕ, ◌+◌, ◌*◌, ◌/◌, ◌%◌, ◌≤◌, ◌<◌}
 use mathlib.Core.Logic.{◌≢◌}
 use mathlib.Core.Path.{◌≡◌, refl, sym}
@@ -12,7 +13,6 @@ use lib.ListN.{length, get_or, get_or-eq_default}
 use borrow.Author.Tests.{eqb-true, ltb-true, ltb-false, eq-eqb, lt-ltb}
 use Rattle.address.specs.Layout.{page_lines}
 use Rattle.board.specs.declared.Shape.{Shape}
-use Rattle.board.specs.declared.Found.TheVariants.{At, Nothing}
 use Rattle.board.specs.declared.Home.{Home}
 use Rattle.board.proofs.Bools.{clash, and_left, and_right}
 use Rattle.lines.specs.Records.{line_at, put_line, no_line, new_line, permitted_line}
@@ -88,7 +88,7 @@ module _ (s : Shape) (r : List ℕ) (i : ℕ) where
       go true t = ltb-true _ _ t
       go false t = let d = ltb-false i n t in clash _ h (past-none (omega arith))
 
-pub held_below_lem : {s : Shape} {home : ℕ → Home} {x : Store} {m : List ℕ} → Sim s home x m → (i : ℕ)
+pub held_below_lem : {s : Shape} {home : ℕ → (Option Home)} {x : Store} {m : List ℕ} → Sim s home x m → (i : ℕ)
     → holds_at s x.records i ≡ true → i < s.lines
 held_below_lem {s} {x = x} sim i h = held-listed s x.records i s.lines sim.record_count h
 
@@ -96,14 +96,14 @@ held_below_lem {s} {x = x} sim i h = held-listed s x.records i s.lines sim.recor
 
 module _ (s : Shape) (r : List ℕ) (name : ℕ) where
   -- what the search finds holds the name
-  pub holder-some : (j : ℕ) → holder_of s r name ≡ At j → (holds_at s r j ≡ true) × ((line_at r j).name ≡ name)
+  pub holder-some : (j : ℕ) → holder_of s r name ≡ Some j → (holds_at s r j ≡ true) × ((line_at r j).name ≡ name)
   unfolding holder_of holds_name
   holder-some j h =
       let t = (first-at (holds_name s r name) (place_of s name * s.ways) s.ways j h).passes in
       (and_right (eqb (line_at r j).name name) _ t, eqb-true _ _ (and_left (eqb (line_at r j).name name) _ t))
 
   -- where it finds nothing, no record holds the name
-  pub holder-nothing : (j : ℕ) → 0 < s.ways → holder_of s r name ≡ Nothing → holds_at s r j ≡ true → (line_at r j).name ≢ name
+  pub holder-nothing : (j : ℕ) → 0 < s.ways → holder_of s r name ≡ None → holds_at s r j ≡ true → (line_at r j).name ≢ name
   unfolding holder_of holds_name
   holder-nothing j w h d z =
       let a = held_place s r j d in
@@ -117,13 +117,13 @@ module _ (s : Shape) (r : List ℕ) (name : ℕ) where
 -- ---- the search for a physical line
 
 module _ (s : Shape) (r : List ℕ) (p : ℕ) where
-  pub keeper-some : (j : ℕ) → keeper_of s r p ≡ At j → (holds_at s r j ≡ true) × ((line_at r j).physical ≡ p)
+  pub keeper-some : (j : ℕ) → keeper_of s r p ≡ Some j → (holds_at s r j ≡ true) × ((line_at r j).physical ≡ p)
   unfolding keeper_of keeps_line
   keeper-some j h =
       let t = (first-at (keeps_line s r p) 0 s.lines j h).passes in
       (and_left (holds_at s r j) _ t, eqb-true _ _ (and_right (holds_at s r j) _ t))
 
-  pub keeper-nothing : (j : ℕ) → keeper_of s r p ≡ Nothing → j < s.lines → holds_at s r j ≡ true → (line_at r j).physical ≢ p
+  pub keeper-nothing : (j : ℕ) → keeper_of s r p ≡ None → j < s.lines → holds_at s r j ≡ true → (line_at r j).physical ≢ p
   unfolding keeper_of keeps_line
   keeper-nothing j h b d z =
       let t = first-nothing (keeps_line s r p) 0 s.lines j h (omega arith) (omega arith) in

@@ -1,17 +1,16 @@
 -- Lines leave, bytes of memory change, and the map changes: one law over any two maps of homes. Map, unmap, move and accesses past the cache are instances
 -- of it. And lines get a permission, as the new map has it, which protect is an instance of.
 -- Stands on Held and Sweeps.
+use Rattle.std.specs.Prelude.{Option, Some, None}
 use Prim.Native.Nat.{ℕ, ◌*◌, ◌<◌}
 use mathlib.Core.Path.{◌≡◌, refl, sym, ap, ◌∙◌}
 use mathlib.Core.Bool.{Bool, true, false, ◌&&◌, cond}
 use mathlib.Core.List.{List}
 use lib.ListN.{length}
 use Rattle.address.specs.Layout.{page_lines}
+use Rattle.board.specs.Homes.{at_line}
 use Rattle.board.specs.declared.Shape.{Shape}
-use Rattle.board.specs.declared.Found.{Found}
-use Rattle.board.specs.declared.Found.TheVariants.{At, Nothing}
 use Rattle.board.specs.declared.Home.{Home}
-use Rattle.board.specs.declared.Home.TheVariants.{Line as HomeLine}
 use Rattle.board.proofs.Bools.{clash, and-false}
 use Rattle.lines.specs.Records.{line_at, no_line, permitted_line}
 use Rattle.lines.specs.Holds.{holds_at, keeper_of}
@@ -67,7 +66,7 @@ module _ (s : Shape) (names : Names) (x : Store) (count : length x.records ≡ 2
 
 -- Those that `sel` selects leave, with nothing written back; the bytes of the physical lines of Z come to be the same in memory and in the flat memory, and
 -- all others stay; the map is another. A line that leaves is clean or of Z, and one that stays is not of Z and has the same home in the new map.
-module _ (s : Shape) (home home' : ℕ → Home) (x y : Store) (m m' : List ℕ) (sim : Sim s home x m) (sel : Line → Bool) (Z : ℕ → Bool)
+module _ (s : Shape) (home home' : ℕ → Option Home) (x y : Store) (m m' : List ℕ) (sim : Sim s home x m) (sel : Line → Bool) (Z : ℕ → Bool)
     (alike : SameCache x y) (flat-length : length m' ≡ length m) (left : (j : ℕ) → j < s.lines → Left s sel x y j)
     (alike-in : (p k : ℕ) → Z p ≡ true → p < page_lines * s.frames → k < 16 → byte m' p k ≡ byte y.memory p k)
     (memory-out : (p k : ℕ) → Z p ≡ false → k < 16 → byte y.memory p k ≡ byte x.memory p k)
@@ -76,7 +75,7 @@ module _ (s : Shape) (home home' : ℕ → Home) (x y : Store) (m m' : List ℕ)
     → (line_at x.records j).changed ≡ false)
     (stays : (j : ℕ) → holds_at s x.records j ≡ true → sel (line_at x.records j) ≡ false
     → (Z (line_at x.records j).physical ≡ false)
-    × (home' (line_at x.records j).name ≡ HomeLine (line_at x.records j).physical (line_at x.records j).write)) where
+    × (home' (line_at x.records j).name ≡ Some (at_line (line_at x.records j).physical (line_at x.records j).write))) where
   abbrev line : ℕ → Line
   line j = line_at x.records j
 
@@ -99,12 +98,12 @@ module _ (s : Shape) (home home' : ℕ → Home) (x y : Store) (m m' : List ℕ)
           let r : line_at y.records j ≡ line j = left j (held_below_lem sim j h) ∙ rw (h, u) in
           absurd (free j (held_same s y.records j x.records r ∙ h) (rw r q))
 
-      go : (t : Bool) → Z p ≡ t → (f : Found) → keeper_of s x.records p ≡ f → byte m' p k ≡ byte y.memory p k
+      go : (t : Bool) → Z p ≡ t → (f : Option ℕ) → keeper_of s x.records p ≡ f → byte m' p k ≡ byte y.memory p k
       go true t f e = alike-in p k t b g
-      go false t (At j) e =
+      go false t (Some j) e =
           let a = keeper-some s x.records p j e in
           flat_out p k t g ∙ clean j a.0 a.1 (sel (line j)) refl t ∙ sym (memory-out p k t g)
-      go false t Nothing e =
+      go false t None e =
           flat_out p k t g
           ∙ sim.bare p k (λ j o. keeper-nothing s x.records p j e (held_below_lem sim j o) o) b g
           ∙ sym (memory-out p k t g)
@@ -125,7 +124,7 @@ module _ (s : Shape) (home home' : ℕ → Home) (x y : Store) (m m' : List ℕ)
 
 -- ---- its instances
 
-module _ (s : Shape) (home home' : ℕ → Home) (x : Store) (m : List ℕ) (sim : Sim s home x m) where
+module _ (s : Shape) (home home' : ℕ → Option Home) (x : Store) (m : List ℕ) (sim : Sim s home x m) where
   -- no line leaves, and none is held of Z, whose bytes become those of `memory'` and `m'`
   pub written-sim : (memory' m' : List ℕ) (Z : ℕ → Bool) → length memory' ≡ length x.memory → length m' ≡ length m
       → ((p k : ℕ) → Z p ≡ true → p < page_lines * s.frames → k < 16 → byte m' p k ≡ byte memory' p k)
@@ -133,7 +132,7 @@ module _ (s : Shape) (home home' : ℕ → Home) (x : Store) (m : List ℕ) (sim
       → ((p k : ℕ) → Z p ≡ false → k < 16 → byte m' p k ≡ byte m p k)
       → ((j : ℕ) → holds_at s x.records j ≡ true
       → (Z (line_at x.records j).physical ≡ false)
-      × (home' (line_at x.records j).name ≡ HomeLine (line_at x.records j).physical (line_at x.records j).write))
+      × (home' (line_at x.records j).name ≡ Some (at_line (line_at x.records j).physical (line_at x.records j).write)))
       → Sim s home' (store x.records x.cache memory') m'
   written-sim memory' m' Z a b in-zone memory-out flat_out stays =
       left-sim s home home' x (store x.records x.cache memory') m m' sim (λ (l : Line). false) Z
@@ -141,7 +140,7 @@ module _ (s : Shape) (home home' : ℕ → Home) (x : Store) (m : List ℕ) (sim
       (λ j h. sym (ap (λ (t : Bool). cond t no_line (line_at x.records j)) (and-false (holds_at s x.records j))))
       in-zone memory-out flat_out (λ j h n z. clash false n refl) (λ j h n. stays j h)
 
-module _ (s : Shape) (home home' : ℕ → Home) (names : Names) (x : Store) (m : List ℕ) (sim : Sim s home x m) where
+module _ (s : Shape) (home home' : ℕ → Option Home) (names : Names) (x : Store) (m : List ℕ) (sim : Sim s home x m) where
   abbrev was : ℕ → Line
   was j = line_at x.records j
 
@@ -152,7 +151,7 @@ module _ (s : Shape) (home home' : ℕ → Home) (names : Names) (x : Store) (m 
       → ((p k : ℕ) → Z p ≡ false → k < 16 → byte m' p k ≡ byte m p k)
       → ((j : ℕ) → holds_at s x.records j ≡ true → named names (was j).name ≡ true → Z (was j).physical ≡ true)
       → ((j : ℕ) → holds_at s x.records j ≡ true → named names (was j).name ≡ false
-      → (Z (was j).physical ≡ false) × (home' (was j).name ≡ HomeLine (was j).physical (was j).write))
+      → (Z (was j).physical ≡ false) × (home' (was j).name ≡ Some (at_line (was j).physical (was j).write)))
       → Sim s home' (store (visited_all s (visit Drop names) x).records (visited_all s (visit Drop names) x).cache memory') m'
   dropped-sim memory' m' Z a b in-zone memory-out flat_out gone stays =
       let c = swept-cache s (visit Drop names) x in
@@ -162,7 +161,7 @@ module _ (s : Shape) (home home' : ℕ → Home) (names : Names) (x : Store) (m 
       in-zone memory-out flat_out (λ j h n z. clash _ (gone j h n) z) stays
 
   -- the lines of the names are written back and dropped; a line of none of them has the same home in the new map
-  pub retired-sim : ((j : ℕ) → holds_at s x.records j ≡ true → named names (was j).name ≡ false → home' (was j).name ≡ HomeLine (was j).physical (was j).write)
+  pub retired-sim : ((j : ℕ) → holds_at s x.records j ≡ true → named names (was j).name ≡ false → home' (was j).name ≡ Some (at_line (was j).physical (was j).write))
       → Sim s home' (visited_all s (visit Retire names) x) m
   retired-sim stays =
       let y = visited_all s (visit Retire names) x in
@@ -171,8 +170,8 @@ module _ (s : Shape) (home home' : ℕ → Home) (names : Names) (x : Store) (m 
       (λ j h. let a = retired-stayed s names x sim.record_count j h in (refl, rw a.same (stays j a.was a.stays)))
 
   -- the lines of the names get the permission, which is the one of their home in the new map; a line of none of them has the same home there
-  module _ (write : Bool) (named-home : (j : ℕ) → holds_at s x.records j ≡ true → named names (was j).name ≡ true → home' (was j).name ≡ HomeLine (was j).physical write)
-      (other-home : (j : ℕ) → holds_at s x.records j ≡ true → named names (was j).name ≡ false → home' (was j).name ≡ HomeLine (was j).physical (was j).write) where
+  module _ (write : Bool) (named-home : (j : ℕ) → holds_at s x.records j ≡ true → named names (was j).name ≡ true → home' (was j).name ≡ Some (at_line (was j).physical write))
+      (other-home : (j : ℕ) → holds_at s x.records j ≡ true → named names (was j).name ≡ false → home' (was j).name ≡ Some (at_line (was j).physical (was j).write)) where
     abbrev given : Store
     given = visited_all s (visit (Permit write) names) x
 

@@ -1,5 +1,6 @@
 -- The steps on the store keep it standing for a flat memory: a line written back and dropped, a line filled, bytes stored, and a miss.
 -- Stands on Bytes, Held and one law of a changed record.
+use Rattle.std.specs.Prelude.{Option, Some, None}
 use Prim.Native.Nat.{ℕ, ◌+◌, ◌*◌, ◌/◌, ◌≤◌, ◌<◌}
 use mathlib.Core.Logic.{◌≢◌}
 use mathlib.Core.Path.{◌≡◌, refl, sym, ◌∙◌}
@@ -11,11 +12,10 @@ use lib.ListN.{length, set}
 use lib.Seq.{set-set, set_comm}
 use borrow.Author.Tests.{eqb-true, eqb-false}
 use Rattle.address.specs.Layout.{page_lines}
+use Rattle.board.specs.Homes.{at_line}
 use Rattle.board.specs.Lists.{splice, part}
 use Rattle.board.specs.declared.Shape.{Shape}
-use Rattle.board.specs.declared.Found.TheVariants.{Nothing}
 use Rattle.board.specs.declared.Home.{Home}
-use Rattle.board.specs.declared.Home.TheVariants.{Line as HomeLine}
 use Rattle.board.proofs.Bools.{clash, cond_both}
 use Rattle.board.proofs.Lists.{length-splice}
 use Rattle.line_bytes.specs.Bytes.{line_of, with_line}
@@ -32,9 +32,9 @@ use Rattle.store_laws.proofs.Held.{holds-none, holds-new, held_in, held-put-same
 -- ---- one record changed: what has to be shown of the others, of this one, and of the rest
 
 -- the new line of record i, if it is held
-record Own (s : Shape) (home : ℕ → Home) (r : List ℕ) (i : ℕ) (l : Line) (cache memory m : List ℕ) : Type 0 where
+record Own (s : Shape) (home : ℕ → Option Home) (r : List ℕ) (i : ℕ) (l : Line) (cache memory m : List ℕ) : Type 0 where
   alone : (j : ℕ) → j ≢ i → holds_at s r j ≡ true → (line_at r j).physical ≢ l.physical
-  maps : home l.name ≡ HomeLine l.physical l.write
+  maps : home l.name ≡ Some (at_line l.physical l.write)
   clean : (k : ℕ) → l.changed ≡ false → k < 16 → byte cache i k ≡ byte memory l.physical k
   cached : (k : ℕ) → k < 16 → byte m l.physical k ≡ byte cache i k
 
@@ -44,7 +44,7 @@ record KeptByte (x : Store) (j p k : ℕ) (cache memory m m' : List ℕ) : Type 
   in_memory : byte memory p k ≡ byte x.memory p k
   in_flat : byte m' p k ≡ byte m p k
 
-module _ {s : Shape} {home : ℕ → Home} {x : Store} {m : List ℕ} (sim : Sim s home x m)
+module _ {s : Shape} {home : ℕ → (Option Home)} {x : Store} {m : List ℕ} (sim : Sim s home x m)
     (i : ℕ) (l : Line) (cache memory m' : List ℕ) (low : i < s.lines) where
   abbrev after : List ℕ
   after = put_line x.records i l
@@ -80,7 +80,7 @@ module _ {s : Shape} {home : ℕ → Home} {x : Store} {m : List ℕ} (sim : Sim
     once' j k (other q r t) (here q' v t') a b p = absurd ((own (sym t' ∙ b)).alone j q (sym t ∙ a) (cc))
     once' j k (other q r t) (other q' v t') a b p = sim.once j k (sym t ∙ a) (sym t' ∙ b) (cc)
 
-    maps' : (j : ℕ) → Place j → holds_at s after j ≡ true → home (line_at after j).name ≡ HomeLine (line_at after j).physical (line_at after j).write
+    maps' : (j : ℕ) → Place j → holds_at s after j ≡ true → home (line_at after j).name ≡ Some (at_line (line_at after j).physical (line_at after j).write)
     maps' j (here q r t) h = rw r (own (sym t ∙ h)).maps
     maps' j (other q r t) h = rw r (sim.maps j (sym t ∙ h))
 
@@ -168,7 +168,7 @@ unfolding put_line
 put-put r i l n =
     rw (set_comm (set r (2 * i) l.name) (2 * i + 1) (2 * i) (word_of l) n.name (λ e. omega arith)) (simp set-set)
 
-module _ {s : Shape} {home : ℕ → Home} {x : Store} {m : List ℕ} (sim : Sim s home x m) where
+module _ {s : Shape} {home : ℕ → (Option Home)} {x : Store} {m : List ℕ} (sim : Sim s home x m) where
   -- no record holds physical line q: not i, and none of the others
   none-holds : (i q : ℕ) → ((j : ℕ) → j ≢ i → holds_at s x.records j ≡ true → (line_at x.records j).physical ≢ q)
       → (holds_at s x.records i ≡ true → (line_at x.records i).physical ≢ q)
@@ -212,7 +212,7 @@ module _ {s : Shape} {home : ℕ → Home} {x : Store} {m : List ℕ} (sim : Sim
           (copied-other x.memory x.cache (line_at x.records i).physical i y z))
 
   -- a line filled where none is held, from a physical line that no record holds
-  sim-fill : Homes s home → (i name p : ℕ) (w : Bool) → i < s.lines → holds_at s x.records i ≡ false → home name ≡ HomeLine p w
+  sim-fill : Homes s home → (i name p : ℕ) (w : Bool) → i < s.lines → holds_at s x.records i ≡ false → home name ≡ Some (at_line p w)
       → ((j : ℕ) → holds_at s x.records j ≡ true → (line_at x.records j).physical ≢ p)
       → Sim s home (noted i (new_line name p w) (filled i p x)) m
   unfolding noted filled with_line line_of
@@ -274,16 +274,16 @@ inserted-unheld : (s : Shape) (i name p : ℕ) (w : Bool) (x : Store) → holds_
 unfolding inserted
 inserted-unheld s i name p w x h = rw (written-unheld s i x h) refl
 
-module _ {s : Shape} {home : ℕ → Home} {x : Store} {m : List ℕ} (homes : Homes s home) (sim : Sim s home x m)
-    (i name p : ℕ) (w : Bool) (b : i < s.lines) (stands : i / s.ways ≡ place_of s name) (miss : holder_of s x.records name ≡ Nothing)
-    (h : home name ≡ HomeLine p w) where
+module _ {s : Shape} {home : ℕ → (Option Home)} {x : Store} {m : List ℕ} (homes : Homes s home) (sim : Sim s home x m)
+    (i name p : ℕ) (w : Bool) (b : i < s.lines) (stands : i / s.ways ≡ place_of s name) (miss : holder_of s x.records name ≡ None)
+    (h : home name ≡ Some (at_line p w)) where
   room : 2 * i + 2 ≤ length x.records
   room = omega (arith, sim.record_count)
 
   -- no record holds the name's home
   alone : (j : ℕ) → holds_at s x.records j ≡ true → (line_at x.records j).physical ≢ p
   alone j o q =
-      let g : home (line_at x.records j).name ≡ HomeLine p (line_at x.records j).write = rw q at (sim.maps j o) in
+      let g : home (line_at x.records j).name ≡ Some (at_line p (line_at x.records j).write) = rw q at (sim.maps j o) in
       holder-nothing s x.records name j sim.ways_pos miss o
       (homes.apart (line_at x.records j).name name p (line_at x.records j).write w g h)
 

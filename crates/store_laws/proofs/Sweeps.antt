@@ -1,5 +1,6 @@
 -- Visits of every record: what each record becomes, what stays, and that the store still stands for the flat memory.
 -- Stands on the record laws of `lines` and, for lines written back and dropped, on Steps.
+use Rattle.std.specs.Prelude.{Option, Some}
 use Prim.Native.Nat.{ℕ, zero, suc, ◌+◌, ◌*◌, ◌≤◌, ◌<◌}
 use mathlib.Core.Logic.{◌≢◌}
 use mathlib.Core.Path.{◌≡◌, refl, sym, ap, ◌∙◌}
@@ -10,9 +11,9 @@ use lib.Dec.{eqb}
 use lib.ListN.{length}
 use borrow.Author.Tests.{eqb-true, eqb-false}
 use Rattle.address.specs.Layout.{page_lines}
+use Rattle.board.specs.Homes.{at_line}
 use Rattle.board.specs.declared.Shape.{Shape}
 use Rattle.board.specs.declared.Home.{Home}
-use Rattle.board.specs.declared.Home.TheVariants.{Line as HomeLine}
 use Rattle.line_bytes.specs.Bytes.{line_of}
 use Rattle.lines.specs.Records.{line_at, put_line, no_line, permitted_line}
 use Rattle.stores.specs.Stores.{Store, written_back, noted, dropped}
@@ -201,13 +202,13 @@ module _ (s : Shape) (names : Names) (p : ℕ) where
 -- ---- lines kept, dropped or relabelled, with the map and the bytes of memory changed around them
 
 -- record j of y holds a line that x held there, with the same physical line and mark, at its home in the new map
-pub record Kept (s : Shape) (home' : ℕ → Home) (x y : Store) (j : ℕ) : Type 0 where
+pub record Kept (s : Shape) (home' : ℕ → Option Home) (x y : Store) (j : ℕ) : Type 0 where
   pub was : holds_at s x.records j ≡ true
   pub physical_is : (line_at y.records j).physical ≡ (line_at x.records j).physical
   pub changed_is : (line_at y.records j).changed ≡ (line_at x.records j).changed
-  pub maps : home' (line_at y.records j).name ≡ HomeLine (line_at y.records j).physical (line_at y.records j).write
+  pub maps : home' (line_at y.records j).name ≡ Some (at_line (line_at y.records j).physical (line_at y.records j).write)
 
-module _ (s : Shape) (home home' : ℕ → Home) (x y : Store) (m m' : List ℕ) (sim : Sim s home x m)
+module _ (s : Shape) (home home' : ℕ → Option Home) (x y : Store) (m m' : List ℕ) (sim : Sim s home x m)
     (alike : SameCache x y) (flat-length : length m' ≡ length m)
     (kept : (j : ℕ) → holds_at s y.records j ≡ true → Kept s home' x y j)
     (in_memory : (j k : ℕ) → holds_at s y.records j ≡ true → k < 16
@@ -246,7 +247,7 @@ module _ (s : Shape) (home home' : ℕ → Home) (x y : Store) (m m' : List ℕ)
 -- ---- lines written back and dropped
 
 -- a visit that writes back and drops, to every record it is for
-module _ (s : Shape) (home : ℕ → Home) (m : List ℕ) where
+module _ (s : Shape) (home : ℕ → Option Home) (m : List ℕ) where
   pub sim-retired : (names : Names) (x : Store) → Sim s home x m → Sim s home (visited_all s (visit Retire names) x) m
   unfolding visited_all visited treated
   sim-retired names x sim =

@@ -1,5 +1,5 @@
 -- 01, "The board" and "Calls": writing a line back, filling it, dropping it, loading from it and storing to it; and where its bytes stand now.
-use Rattle.std.specs.Prelude.{ℕ, ◌+◌, ◌*◌, Bool, ◌&&◌, cond, List}
+use Rattle.std.specs.Prelude.{ℕ, ◌+◌, ◌*◌, Bool, ◌&&◌, cond, List, Option, Some, None}
 use Rattle.address.specs.Layout.{line_bytes}
 use Rattle.board.specs.declared.Shape.{Shape}
 use Rattle.line_bytes.specs.Bytes.{number, stored, line_of, with_line}
@@ -7,8 +7,6 @@ use Rattle.lines.specs.Records.{line_at, put_line, no_line, new_line, changed_li
 use Rattle.lines.specs.declared.Line.{Line}
 use Rattle.stores.specs.declared.Access.{Access}
 use Rattle.lines.specs.Holds.{holds_at, keeper_of}
-use Rattle.board.specs.declared.Found.{Found}
-use Rattle.board.specs.declared.Found.TheVariants.{At, Nothing}
 
 -- the cache and memory: the records, the cache bytes and the memory bytes
 pub record Store : Type 0 where
@@ -62,9 +60,9 @@ performed_at i offset a records cache =
     (performed 0 (put_line records i (changed_line (line_at records i))) (stored cache (line_bytes * i + offset) a.width a.value))
     (performed (number cache (line_bytes * i + offset) a.width) records cache)
 
-unfoldable pub current_by : List ℕ → List ℕ → ℕ → Found → List ℕ
-current_by cache memory line (At i) = line_of cache i
-current_by cache memory line Nothing = line_of memory line
+unfoldable pub current_by : List ℕ → List ℕ → ℕ → Option ℕ → List ℕ
+current_by cache memory line (Some i) = line_of cache i
+current_by cache memory line None = line_of memory line
 
 -- the current sixteen bytes of a physical line: in the lowest record holding it, else in memory
 unfoldable pub current : Shape → Store → ℕ → List ℕ

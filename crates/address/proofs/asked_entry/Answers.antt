@@ -1,17 +1,17 @@
--- `asked_entry` refuses by the page: one law a return.
+-- `asked_entry` gives the entry of a page that has one.
 use native.Mathlib.Omega.{arith}
-use Rattle.address.proofs.Entries.{asked-below, asked-beyond, asked-given}
+use Rattle.address.proofs.Entries.{entry-page}
+use Rattle.address.specs.Entries.{asked_entry}
+use borrow.Author.Rules.{rules}
 use Rattle.address.proofs.asked_entry.Goals as goal
 
-pub returns-then-page-lt-FIRST_PAGE : goal.returns-then-page-lt-FIRST_PAGE
-returns-then-page-lt-FIRST_PAGE c = asked-below c.args.page (omega (arith, c.if-page-lt-FIRST_PAGE.true))
-
-pub returns-then-page-ge-PAGE_END : goal.returns-then-page-ge-PAGE_END
-returns-then-page-ge-PAGE_END c = asked-beyond c.args.page (omega (arith, c.if-page-ge-PAGE_END.true)) (omega (arith, c.if-page-ge-PAGE_END.true))
-
 pub entry_of-requires : goal.entry_of-requires
-entry_of-requires c = omega (arith, c.if-page-ge-PAGE_END.false)
+entry_of-requires c = entry-page c.args.page _ c.has_entry.ensures c.if-has_entry.true
+
+pub returns-then-has_entry : goal.returns-then-has_entry
+unfolding asked_entry
+returns-then-has_entry c = rw (← c.has_entry.ensures, c.if-has_entry.true, c.entry_of.ensures)
 
 pub returns : goal.returns
-returns c = let page = c.args.page in
-    asked-given page (omega (arith, c.if-page-lt-FIRST_PAGE.false)) _ (omega (arith, c.if-page-ge-PAGE_END.false)) c.entry_of.ensures
+unfolding asked_entry
+returns c = rw (← c.has_entry.ensures, c.if-has_entry.false)

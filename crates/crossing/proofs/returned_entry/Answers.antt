@@ -3,8 +3,8 @@ use Rattle.crossing.proofs.Entries.{returned-at, returned-refused}
 use borrow.Author.Rules.{rules}
 use Rattle.crossing.proofs.returned_entry.Goals as goal
 
-pub returns-in-At : goal.returns-in-At
-returns-in-At c = search (rules, returned-at)
+pub returns-in-Some : goal.returns-in-Some
+returns-in-Some c = search (rules, returned-at)
 
-pub returns-in-Refused : goal.returns-in-Refused
-returns-in-Refused c = search (rules, returned-refused)
+pub returns-in-None : goal.returns-in-None
+returns-in-None c = search (rules, returned-refused)

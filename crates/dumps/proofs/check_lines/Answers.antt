@@ -3,8 +3,8 @@ use Rattle.dumps.proofs.Checks.{or_at, or_later}
 use borrow.Author.Rules.{rules}
 use Rattle.dumps.proofs.check_lines.Goals as goal
 
-pub returns-in-At : goal.returns-in-At
-returns-in-At c = search (rules, or_at)
+pub returns-in-Some : goal.returns-in-Some
+returns-in-Some c = search (rules, or_at)
 
-pub returns-in-Nothing : goal.returns-in-Nothing
-returns-in-Nothing c = search (rules, or_later)
+pub returns-in-None : goal.returns-in-None
+returns-in-None c = search (rules, or_later)

@@ -6,8 +6,8 @@ use Rattle.dumps.proofs.check_pages.Goals as goal
 pub check_lines-requires : goal.check_lines-requires
 check_lines-requires c = (search rules, search rules, search (rules, none-by), search rules, search rules)
 
-pub returns-in-At : goal.returns-in-At
-returns-in-At c = search (rules, or_at)
+pub returns-in-Some : goal.returns-in-Some
+returns-in-Some c = search (rules, or_at)
 
-pub returns-in-Nothing : goal.returns-in-Nothing
-returns-in-Nothing c = search (rules, or_later)
+pub returns-in-None : goal.returns-in-None
+returns-in-None c = search (rules, or_later)

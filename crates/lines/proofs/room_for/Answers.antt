@@ -6,11 +6,11 @@ use Rattle.lines.proofs.room_for.Goals as goal
 pub holder_in-requires : goal.holder_in-requires
 holder_in-requires c = search (rules, four-inside)
 
-pub returns-in-At : goal.returns-in-At
-returns-in-At c = search (rules, room-held)
+pub returns-in-Some : goal.returns-in-Some
+returns-in-Some c = search (rules, room-held)
 
-pub returns-in-Nothing : goal.returns-in-Nothing
-returns-in-Nothing c = search (rules, room-new)
+pub returns-in-None : goal.returns-in-None
+returns-in-None c = search (rules, room-new)
 
 pub holds_name-requires : goal.holds_name-requires
 holds_name-requires c = search (rules, first-room)

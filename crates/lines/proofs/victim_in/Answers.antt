@@ -16,8 +16,8 @@ bounds-uses-place c = search (rules, place-noted)
 pub overflow_add-result : goal.overflow_add-result
 overflow_add-result c = let p = c.requires in omega (arith, p.0.lines_max, four-inside c.args.s _ _ p.0 p.2 p.3 p.1, c.fewest_of.ensures.1)
 
-pub returns-in-At : goal.returns-in-At
-returns-in-At c = search (rules, victim_empty)
+pub returns-in-Some : goal.returns-in-Some
+returns-in-Some c = search (rules, victim_empty)
 
-pub returns-in-Nothing : goal.returns-in-Nothing
-returns-in-Nothing c = search (rules, victim_full)
+pub returns-in-None : goal.returns-in-None
+returns-in-None c = search (rules, victim_full)

@@ -10,8 +10,8 @@ note_use-requires c = search (rules, room-low)
 pub insert-requires : goal.insert-requires
 insert-requires c = search (rules, room-low)
 
-pub returns-in-Nothing : goal.returns-in-Nothing
-returns-in-Nothing c = search (rules, loaded-held)
+pub returns-in-None : goal.returns-in-None
+returns-in-None c = search (rules, loaded-held)
 
-pub returns-in-At : goal.returns-in-At
-returns-in-At c = search (rules, loaded-new)
+pub returns-in-Some : goal.returns-in-Some
+returns-in-Some c = search (rules, loaded-new)

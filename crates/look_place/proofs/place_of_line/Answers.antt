@@ -6,10 +6,10 @@ use borrow.Author.Rules.{rules}
 use Rattle.look_place.proofs.place_of_line.Goals as goal
 
 pub overflow_mul-result : goal.overflow_mul-result
-overflow_mul-result c = record { fits = omega (arith, keeper-inside _ _ _ _ _ c.keeper_of.ensures c.in-At.is) }
+overflow_mul-result c = record { fits = omega (arith, keeper-inside _ _ _ _ _ c.keeper_of.ensures c.in-Some.is) }
 
-pub returns-in-At : goal.returns-in-At
-returns-in-At c = search (rules, place_kept)
+pub returns-in-Some : goal.returns-in-Some
+returns-in-Some c = search (rules, place_kept)
 
-pub returns-in-Nothing : goal.returns-in-Nothing
-returns-in-Nothing c = search (rules, place-memory)
+pub returns-in-None : goal.returns-in-None
+returns-in-None c = search (rules, place-memory)

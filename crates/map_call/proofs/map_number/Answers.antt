@@ -15,11 +15,11 @@ bounds-words-frame c = search (rules, number-frame)
 pub returns-then-words-frame-ne0 : goal.returns-then-words-frame-ne0
 returns-then-words-frame-ne0 c = search (rules, number-used)
 
-pub returns-in-At : goal.returns-in-At
-returns-in-At c = search (rules, number-mapped)
+pub returns-in-Some : goal.returns-in-Some
+returns-in-Some c = search (rules, number-mapped)
 
-pub returns-in-Nothing : goal.returns-in-Nothing
-returns-in-Nothing c = search (rules, number-none)
+pub returns-in-None : goal.returns-in-None
+returns-in-None c = search (rules, number-none)
 
 pub returns : goal.returns
 returns c = search (rules, number-ranges)

@@ -6,11 +6,11 @@ use Rattle.move_call.proofs.move_frame.Goals as goal
 pub returns-in-Stop : goal.returns-in-Stop
 returns-in-Stop c = search (rules, move-stop)
 
-pub returns-in-At : goal.returns-in-At
-returns-in-At c = search (rules, move_taken)
+pub returns-in-Some : goal.returns-in-Some
+returns-in-Some c = search (rules, move_taken)
 
-pub returns-in-Nothing : goal.returns-in-Nothing
-returns-in-Nothing c = search (rules, move-on)
+pub returns-in-None : goal.returns-in-None
+returns-in-None c = search (rules, move-on)
 
 pub returns : goal.returns
 returns c = search (rules, move-outside)

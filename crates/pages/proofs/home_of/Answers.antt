@@ -4,17 +4,17 @@ use Rattle.pages.proofs.Frames.{mapped-inside, address-home-at, address-home-dir
 use borrow.Author.Rules.{rules}
 use Rattle.pages.proofs.home_of.Goals as goal
 
-pub returns-in-At : goal.returns-in-At
-returns-in-At c = search (rules, address-home-at)
+pub returns-in-Some : goal.returns-in-Some
+returns-in-Some c = search (rules, address-home-at)
 
-pub returns-in-Nothing : goal.returns-in-Nothing
-returns-in-Nothing c = search (rules, address-home-direct)
+pub returns-in-None : goal.returns-in-None
+returns-in-None c = search (rules, address-home-direct)
 
 pub offset_bounds-words-f : goal.offset_bounds-words-f
-offset_bounds-words-f c = omega (arith, mapped-inside _ _ _ _ _ c.mapped_to.ensures c.in-At.is)
+offset_bounds-words-f c = omega (arith, mapped-inside _ _ _ _ _ c.mapped_to.ensures c.in-Some.is)
 
 pub bounds-words-f : goal.bounds-words-f
-bounds-words-f c = omega (arith, mapped-inside _ _ _ _ _ c.mapped_to.ensures c.in-At.is)
+bounds-words-f c = omega (arith, mapped-inside _ _ _ _ _ c.mapped_to.ensures c.in-Some.is)
 
 pub in_frame-requires : goal.in_frame-requires
-in_frame-requires c = omega (arith, mapped-inside _ _ _ _ _ c.mapped_to.ensures c.in-At.is)
+in_frame-requires c = omega (arith, mapped-inside _ _ _ _ _ c.mapped_to.ensures c.in-Some.is)

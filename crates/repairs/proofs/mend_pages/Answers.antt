@@ -7,8 +7,8 @@ use Rattle.repairs.proofs.mend_pages.Goals as goal
 pub mend_lines-requires : goal.mend_lines-requires
 mend_lines-requires c = (search rules, search rules, search (rules, none-by), search rules, search rules, search rules)
 
-pub returns-in-At : goal.returns-in-At
-returns-in-At c = search (rules, pages-doubled)
+pub returns-in-Some : goal.returns-in-Some
+returns-in-Some c = search (rules, pages-doubled)
 
-pub returns-in-Nothing : goal.returns-in-Nothing
-returns-in-Nothing c = search (rules, pages-mended)
+pub returns-in-None : goal.returns-in-None
+returns-in-None c = search (rules, pages-mended)

@@ -1,6 +1,6 @@
--- `mark_of` tests what the mark comes from. The laws are applied by name, so that a wrong mark is told by its number.
+-- `Mark::by_cache` tests what the mark comes from. The laws are applied by name, so that a wrong mark is told by its number.
 use Rattle.board.proofs.Marks.{mark-held, mark-back, mark-clean}
-use Rattle.board.proofs.mark_of.Goals as goal
+use Rattle.board.proofs.Mark.by_cache.Goals as goal
 
 pub returns-then-held : goal.returns-then-held
 returns-then-held c = mark-held _ _ c.if-held.true
