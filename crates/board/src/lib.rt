@@ -188,6 +188,13 @@ pub struct Accessed {
     pub mark: Mark,
 }
 
+// Number, value and mark, as the programs' tables have them.
+impl fmt::Display for Answer {
+    fn fmt<W: fmt::Write>(&self, f: &mut fmt::Formatter<W>) -> fmt::Result {
+        write!(f, "{} {} {}", self.number, self.value, self.mark)
+    }
+}
+
 // The answer of a call that gives no value: number 0, or a refusal's.
 impl From<Result<(), Refusal>> for Answer {
     ghost from_gives = { λ r a. a ≡ call_answer r };

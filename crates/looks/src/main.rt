@@ -3,7 +3,7 @@
 #![tactic(auto)]
 
 use address::Effective;
-use board::{Pending, Shape};
+use board::{Answer, Pending, Shape};
 use std::io;
 use stores::Access;
 
@@ -19,182 +19,118 @@ const LINE_START: usize = 4096;
 
 const PAST: usize = 1024;
 
+// The board's buffers.
+struct Board {
+    slots: [u32; 1024],
+    words: [u64; 4],
+    records: [u64; 4],
+    cache: [u8; 32],
+    memory: [u8; 16384],
+}
+
 fn shape(frames: usize) -> Shape {
-    Shape {
-        frames: frames,
-        uncached: 1,
-        processes: 2,
-        lines: 2,
-        ways: 1,
-    }
-}
-
-fn write_field(rt: &impl Print, x: u64, end: &str) -> io::Result<()> {
-    print!(rt; "{x}{end}")
-}
-
-fn wide(x: u8) -> u64 {
-    x as u64
+    Shape::one_line(frames, 1, 2, 2)
 }
 
 // The bytes of a part, and how many there are.
 fn write_part(rt: &impl Print, part: &[u8]) -> io::Result<()> {
     print!(rt; "{}", part.len())?;
-    let mut i: usize = 0;
-    while i < part.len() {
-        print!(rt; " {}", wide(part[i]))?;
-        i += 1;
+    for byte in part {
+        print!(rt; " {byte}")?;
     }
     println!(rt)
 }
 
-// A look at a line, by a caller who says that there are so many frames.
-fn look<'a>(
-    rt: &impl Print,
-    frames: usize,
-    slots: &[u32],
-    words: &[u64],
-    records: &[u64],
-    cache: &'a [u8],
-    memory: &'a [u8],
-    line: usize,
-) -> io::Result<()> {
-    let none: [[[u8; 4]; 4]; 0] = [];
-    let number = line_calls::look_number(
-        shape(frames),
-        slots,
-        words,
-        records,
-        cache,
-        memory,
-        &none,
-        line,
-    );
-    write_field(rt, line as u64, " ")?;
-    write_field(rt, number as u64, " ")?;
-    write_part(
-        rt,
-        line_calls::look(
-            shape(frames),
-            slots,
-            words,
-            records,
-            cache,
-            memory,
-            &none,
-            line,
-        ),
-    )
-}
+impl Board {
+    // The session's board after its first two calls: the page is mapped, and process 0 has its segment, both for writing. But every byte
+    // of the cache is 9, and of memory 7.
+    fn mapped() -> Board {
+        let mut board = Board {
+            slots: [0; 1024],
+            words: [0; 4],
+            records: [0; 4],
+            cache: [9; 32],
+            memory: [7; 16384],
+        };
+        board.slots[0] = SLOT;
+        board.words[1] = WORD;
+        board
+    }
 
-// Process 0 loads or stores a byte, and the page's first line is looked at.
-fn turn(
-    rt: &impl Print,
-    slots: &[u32],
-    words: &[u64],
-    records: &mut [u64],
-    cache: &mut [u8],
-    memory: &mut [u8],
-    store: bool,
-    address: u32,
-) -> io::Result<()> {
-    let mut none: [[[u8; 4]; 4]; 0] = [];
-    user_access::user_access(
-        shape(4),
-        slots,
-        words,
-        records,
-        cache,
-        memory,
-        &mut none,
-        Pending {
-            set: false,
-            name: 0,
-        },
-        0,
-        Access {
-            store: store,
+    // A look at a line, by a caller who says that there are so many frames.
+    fn look(&self, rt: &impl Print, frames: usize, line: usize) -> io::Result<()> {
+        let s = shape(frames);
+        let asked = line_calls::look_check(
+            s,
+            &self.slots,
+            &self.words,
+            &self.records,
+            &self.cache,
+            &self.memory,
+            &[],
+            line,
+        );
+        let part = line_calls::look(
+            s,
+            &self.slots,
+            &self.words,
+            &self.records,
+            &self.cache,
+            &self.memory,
+            &[],
+            line,
+        );
+        print!(rt; "{line} {} ", Answer::from(asked).number)?;
+        write_part(rt, part)
+    }
+
+    // Process 0 loads or stores a byte, and the page's first line is looked at.
+    fn turn(&mut self, rt: &impl Print, store: bool, address: u32) -> io::Result<()> {
+        let a = Access {
+            store,
             width: 1,
             value: 50,
-        },
-        Effective(address),
-    );
-    look(rt, 4, slots, words, records, cache, memory, LINE)
-}
-
-// A byte of a buffer.
-fn write_byte(rt: &impl Print, title: &str, bytes: &[u8], at: usize) -> io::Result<()> {
-    print!(rt; "{title}")?;
-    if at < bytes.len() {
-        return write_field(rt, wide(bytes[at]), "\n");
+        };
+        let _ = user_access::user_access(
+            shape(4),
+            &self.slots,
+            &self.words,
+            &mut self.records,
+            &mut self.cache,
+            &mut self.memory,
+            &mut [],
+            Pending::none(),
+            0,
+            a,
+            Effective(address),
+        );
+        self.look(rt, 4, LINE)
     }
-    Ok(())
+
+    fn flush(&mut self) {
+        let _ = line_calls::flush_all(
+            shape(4),
+            &self.slots,
+            &self.words,
+            &mut self.records,
+            &self.cache,
+            &mut self.memory,
+            &[],
+        );
+    }
 }
 
-// After a store the part is the cache's: memory still has its 7.
-fn stored(
-    rt: &impl Print,
-    slots: &[u32],
-    words: &[u64],
-    records: &mut [u64],
-    cache: &mut [u8],
-    memory: &mut [u8],
-) -> io::Result<()> {
-    turn(rt, slots, words, records, cache, memory, true, 3)?;
-    write_byte(rt, "in memory ", memory, LINE_START + 3)
-}
-
-// Flushed, and its place taken by the line at 32: the part is memory's.
-fn flushed(
-    rt: &impl Print,
-    slots: &[u32],
-    words: &[u64],
-    records: &mut [u64],
-    cache: &mut [u8],
-    memory: &mut [u8],
-) -> io::Result<()> {
-    let none: [[[u8; 4]; 4]; 0] = [];
-    line_calls::flush_all(shape(4), slots, words, records, cache, memory, &none);
-    turn(rt, slots, words, records, cache, memory, false, 32)?;
-    write_byte(rt, "in the cache ", cache, 3)
-}
-
-// Refused: a line past memory, and a caller who says three frames.
-fn refused<'a>(
-    rt: &impl Print,
-    slots: &[u32],
-    words: &[u64],
-    records: &[u64],
-    cache: &'a [u8],
-    memory: &'a [u8],
-) -> io::Result<()> {
-    look(rt, 4, slots, words, records, cache, memory, PAST)?;
-    look(rt, 3, slots, words, records, cache, memory, LINE)
-}
-
-fn looks(
-    rt: &impl Print,
-    slots: &[u32],
-    words: &[u64],
-    records: &mut [u64],
-    cache: &mut [u8],
-    memory: &mut [u8],
-) -> io::Result<()> {
-    stored(rt, slots, words, records, cache, memory)?;
-    flushed(rt, slots, words, records, cache, memory)?;
-    refused(rt, slots, words, records, cache, memory)
-}
-
-// The session's board after its first two calls: the page is mapped, and process 0 has its segment, both for writing. But every byte of
-// the cache is 9, and of memory 7.
 fn main(rt: HostRuntime) -> io::Result<()> {
-    let mut slots: [u32; 1024] = [0; 1024];
-    let mut words: [u64; 4] = [0; 4];
-    slots[0] = SLOT;
-    words[1] = WORD;
-    let mut records: [u64; 4] = [0; 4];
-    let mut cache: [u8; 32] = [9; 32];
-    let mut memory: [u8; 16384] = [7; 16384];
+    let mut board = Board::mapped();
     println!(rt; "line number length bytes")?;
-    looks(&rt, &slots, &words, &mut records, &mut cache, &mut memory)
+    // after a store the part is the cache's: memory still has its 7
+    board.turn(&rt, true, 3)?;
+    println!(rt; "in memory {}", board.memory[LINE_START + 3])?;
+    // flushed, and its place taken by the line at 32: the part is memory's
+    board.flush();
+    board.turn(&rt, false, 32)?;
+    println!(rt; "in the cache {}", board.cache[3])?;
+    // refused: a line past memory, and a caller who says three frames
+    board.look(&rt, 4, PAST)?;
+    board.look(&rt, 3, LINE)
 }

@@ -4,7 +4,7 @@
 ghost use Rattle.std.specs.Prelude.{◌≤◌, ◌<◌, ◌^◌};
 
 use address::Effective;
-use board::{LINE_BYTES, PAGE_BYTES, PROCESS_SLOTS, Pending, RECORD_WORDS, Shape};
+use board::{Answer, LINE_BYTES, PAGE_BYTES, PROCESS_SLOTS, Pending, RECORD_WORDS, Shape};
 use slot_calls::attach;
 use std::io;
 use stores::Access;
@@ -20,82 +20,56 @@ const MOST_PROCESSES: usize = 64;
 
 const OVER_PROCESSES: usize = 65;
 
-// A number, as a line's end.
-fn write_end(rt: &impl Print, number: u32) -> io::Result<()> {
-    println!(rt; "{number}")
-}
-
-// A count by its name, and the answer, as a line.
-fn write_count(rt: &impl Print, name: &str, count: usize, number: u32) -> io::Result<()> {
-    print!(rt; "{name}{count}: ")?;
-    write_end(rt, number)
-}
-
 // A board of one frame.
 fn shape(processes: usize, lines: usize) -> Shape {
-    Shape {
-        frames: 1,
-        uncached: 0,
-        processes: processes,
-        lines: lines,
-        ways: 1,
-    }
+    Shape::one_line(1, 0, processes, lines)
 }
 
 // Width 4 at address 2, on a fresh board.
-fn misaligned() -> u32 {
-    let mut none: [[[u8; 4]; 4]; 0] = [];
-    let slots: [u32; PROCESS_SLOTS] = [0; PROCESS_SLOTS];
-    let words: [u64; 1] = [0; 1];
-    let mut records: [u64; RECORD_WORDS] = [0; RECORD_WORDS];
-    let mut cache: [u8; LINE_BYTES] = [0; LINE_BYTES];
-    let mut memory: [u8; PAGE_BYTES] = [0; PAGE_BYTES];
-    let tag = Pending {
-        set: false,
-        name: 0,
-    };
+fn misaligned() -> Answer {
     let load = Access {
         store: false,
         width: 4,
         value: 0,
     };
-    let a = user_access(
+    Answer::from(user_access(
         shape(1, 1),
-        &slots,
-        &words,
-        &mut records,
-        &mut cache,
-        &mut memory,
-        &mut none,
-        tag,
+        &[0; PROCESS_SLOTS],
+        &[0; 1],
+        &mut [0; RECORD_WORDS],
+        &mut [0; LINE_BYTES],
+        &mut [0; PAGE_BYTES],
+        &mut [],
+        Pending::none(),
         0,
         load,
         Effective(2),
-    );
-    a.number
+    ))
 }
 
 // An attach for the last process of a board with one frame.
-fn attached(processes: usize, lines: usize, slots: &mut [u32], records: &[u64], cache: &[u8]) -> u32
+fn attached(
+    processes: usize,
+    lines: usize,
+    slots: &mut [u32],
+    records: &[u64],
+    cache: &[u8],
+) -> Answer
     requires { 1 ≤ processes }
 {
-    let none: [[[u8; 4]; 4]; 0] = [];
-    let words: [u64; 1] = [0; 1];
-    let memory: [u8; PAGE_BYTES] = [0; PAGE_BYTES];
-    let a = attach(
+    Answer::from(attach(
         shape(processes, lines),
         slots,
-        &words,
+        &[0; 1],
         records,
         cache,
-        &memory,
-        &none,
+        &[0; PAGE_BYTES],
+        &[],
         processes - 1,
         0,
         2048,
         true,
-    );
-    a.number
+    ))
 }
 
 // With one process and this many lines. The call gets as much of the buffers as the count says, so it is the count that is refused.
@@ -104,12 +78,9 @@ fn with_lines(rt: &impl Print, lines: usize, records: &[u64], cache: &[u8]) -> i
 {
     let r = RECORD_WORDS * lines;
     let c = LINE_BYTES * lines;
-    if r <= records.len() {
-        if c <= cache.len() {
-            let mut slots: [u32; PROCESS_SLOTS] = [0; PROCESS_SLOTS];
-            let number = attached(1, lines, &mut slots, &records[0..r], &cache[0..c]);
-            return write_count(rt, "L = ", lines, number);
-        }
+    if r <= records.len() && c <= cache.len() {
+        let a = attached(1, lines, &mut [0; PROCESS_SLOTS], &records[..r], &cache[..c]);
+        println!(rt; "L = {lines}: {}", a.number)?;
     }
     Ok(())
 }
@@ -120,42 +91,33 @@ fn with_processes(rt: &impl Print, processes: usize, slots: &mut [u32]) -> io::R
 {
     let n = PROCESS_SLOTS * processes;
     if n <= slots.len() {
-        let records: [u64; RECORD_WORDS] = [0; RECORD_WORDS];
-        let cache: [u8; LINE_BYTES] = [0; LINE_BYTES];
-        let number = attached(processes, 1, &mut slots[0..n], &records, &cache);
-        return write_count(rt, "P = ", processes, number);
+        let a = attached(processes, 1, &mut slots[..n], &[0; RECORD_WORDS], &[0; LINE_BYTES]);
+        println!(rt; "P = {processes}: {}", a.number)?;
     }
     Ok(())
-}
-
-fn line_counts(rt: &impl Print, records: &[u64], cache: &[u8]) -> io::Result<()> {
-    with_lines(rt, 3, records, cache)?;
-    with_lines(rt, 0, records, cache)?;
-    with_lines(rt, MOST_LINES, records, cache)?;
-    with_lines(rt, OVER_LINES, records, cache)
-}
-
-fn process_counts(rt: &impl Print, slots: &mut [u32]) -> io::Result<()> {
-    with_processes(rt, MOST_PROCESSES, slots)?;
-    with_processes(rt, OVER_PROCESSES, slots)
 }
 
 // Buffers for the largest counts of lines.
 fn run_lines(rt: &impl Print) -> io::Result<()> {
     let records: [u64; RECORD_WORDS * OVER_LINES] = [0; RECORD_WORDS * OVER_LINES];
     let cache: [u8; LINE_BYTES * OVER_LINES] = [0; LINE_BYTES * OVER_LINES];
-    line_counts(rt, &records, &cache)
+    for lines in [3, 0, MOST_LINES, OVER_LINES] {
+        with_lines(rt, lines, &records, &cache)?;
+    }
+    Ok(())
 }
 
 // And of processes.
 fn run_processes(rt: &impl Print) -> io::Result<()> {
     let mut slots: [u32; PROCESS_SLOTS * OVER_PROCESSES] = [0; PROCESS_SLOTS * OVER_PROCESSES];
-    process_counts(rt, &mut slots)
+    for processes in [MOST_PROCESSES, OVER_PROCESSES] {
+        with_processes(rt, processes, &mut slots)?;
+    }
+    Ok(())
 }
 
 fn main(rt: HostRuntime) -> io::Result<()> {
-    print!(rt; "width 4 at address 2: ")?;
-    write_end(&rt, misaligned())?;
+    println!(rt; "width 4 at address 2: {}", misaligned().number)?;
     run_lines(&rt)?;
     run_processes(&rt)
 }

@@ -14,8 +14,7 @@ ghost use Rattle.look_place.specs.Lends.{LookPlace};
 ghost use Rattle.machine.specs.Boards.{board};
 
 use address::Global;
-use board::{Pending, Shape};
-use stores::Access;
+use board::{Answer, Shape};
 
 // A supervisor's load or store by global address.
 #[unsafe(no_mangle)]
@@ -38,36 +37,22 @@ pub extern "C" fn oaledva_supervisor_access(
 ) -> u64
     ensures { SupervisorAccess (one_line frames uncached processes lines) (board slots.now words.now records.old cache.old memory.old (tag_of set name)) (access store width value) (global address) (unpacked result) (board slots.now words.now records.new cache.new memory.new (tag_of set name)) }
 {
-    let mut none: [[[u8; 4]; 4]; 0] = [];
-    let s = Shape {
-        frames: frames,
-        uncached: uncached,
-        processes: processes,
-        lines: lines,
-        ways: 1,
-    };
-    let tag = Pending {
-        set: set != 0,
-        name: name,
-    };
-    let a = Access {
-        store: store != 0,
-        width: width,
-        value: value,
-    };
-    let x = supervisor_access::supervisor_access(
+    let s = Shape::one_line(frames, uncached, processes, lines);
+    let tag = crossing::tag_of(set, name);
+    let a = crossing::access(store, width, value);
+    let r = supervisor_access::supervisor_access(
         s,
         slots,
         words,
         records,
         cache,
         memory,
-        &mut none,
+        &mut [],
         tag,
         a,
         Global(address),
     );
-    crossing::packed_answer(x)
+    crossing::packed_access(r)
 }
 
 // Attaches a segment to a slot of a process.
@@ -89,28 +74,21 @@ pub extern "C" fn oaledva_attach(
 ) -> u64
     ensures { (tag : Pending) → Attach (one_line frames uncached processes lines) (board slots.old words.now records.now cache.now memory.now tag) process slot segment (is_yes write) (unpacked result) (board slots.new words.now records.now cache.now memory.now tag) }
 {
-    let none: [[[u8; 4]; 4]; 0] = [];
-    let s = Shape {
-        frames: frames,
-        uncached: uncached,
-        processes: processes,
-        lines: lines,
-        ways: 1,
-    };
-    let x = slot_calls::attach(
+    let s = Shape::one_line(frames, uncached, processes, lines);
+    let r = slot_calls::attach(
         s,
         slots,
         words,
         records,
         cache,
         memory,
-        &none,
+        &[],
         process,
         slot,
         segment,
         write != 0,
     );
-    crossing::packed_answer(x)
+    crossing::packed_call(r)
 }
 
 // Empties a slot of a process.
@@ -130,18 +108,11 @@ pub extern "C" fn oaledva_detach(
 ) -> u64
     ensures { (tag : Pending) → Detach (one_line frames uncached processes lines) (board slots.old words.now records.now cache.now memory.now tag) process slot (unpacked result) (board slots.new words.now records.now cache.now memory.now tag) }
 {
-    let none: [[[u8; 4]; 4]; 0] = [];
-    let s = Shape {
-        frames: frames,
-        uncached: uncached,
-        processes: processes,
-        lines: lines,
-        ways: 1,
-    };
-    let x = slot_calls::detach(
-        s, slots, words, records, cache, memory, &none, process, slot,
+    let s = Shape::one_line(frames, uncached, processes, lines);
+    let r = slot_calls::detach(
+        s, slots, words, records, cache, memory, &[], process, slot,
     );
-    crossing::packed_answer(x)
+    crossing::packed_call(r)
 }
 
 // Maps a page to a frame.
@@ -162,27 +133,20 @@ pub extern "C" fn oaledva_map(
 ) -> u64
     ensures { (tag : Pending) → Map (one_line frames uncached processes lines) (board slots.now words.old records.old cache.now memory.old tag) page frame (is_yes write) (unpacked result) (board slots.now words.new records.new cache.now memory.new tag) }
 {
-    let none: [[[u8; 4]; 4]; 0] = [];
-    let s = Shape {
-        frames: frames,
-        uncached: uncached,
-        processes: processes,
-        lines: lines,
-        ways: 1,
-    };
-    let x = map_call::map(
+    let s = Shape::one_line(frames, uncached, processes, lines);
+    let r = map_call::map(
         s,
         slots,
         words,
         records,
         cache,
         memory,
-        &none,
+        &[],
         page,
         frame,
         write != 0,
     );
-    crossing::packed_answer(x)
+    crossing::packed_call(r)
 }
 
 // Unmaps a page.
@@ -201,16 +165,9 @@ pub extern "C" fn oaledva_unmap(
 ) -> u64
     ensures { (tag : Pending) → Unmap (one_line frames uncached processes lines) (board slots.now words.old records.old cache.now memory.old tag) page (unpacked result) (board slots.now words.new records.new cache.now memory.new tag) }
 {
-    let none: [[[u8; 4]; 4]; 0] = [];
-    let s = Shape {
-        frames: frames,
-        uncached: uncached,
-        processes: processes,
-        lines: lines,
-        ways: 1,
-    };
-    let x = page_calls::unmap(s, slots, words, records, cache, memory, &none, page);
-    crossing::packed_answer(x)
+    let s = Shape::one_line(frames, uncached, processes, lines);
+    let r = page_calls::unmap(s, slots, words, records, cache, memory, &[], page);
+    crossing::packed_call(r)
 }
 
 // Changes a page's write bit.
@@ -230,26 +187,19 @@ pub extern "C" fn oaledva_protect(
 ) -> u64
     ensures { (tag : Pending) → Protect (one_line frames uncached processes lines) (board slots.now words.old records.old cache.now memory.old tag) page (is_yes write) (unpacked result) (board slots.now words.new records.new cache.now memory.new tag) }
 {
-    let none: [[[u8; 4]; 4]; 0] = [];
-    let s = Shape {
-        frames: frames,
-        uncached: uncached,
-        processes: processes,
-        lines: lines,
-        ways: 1,
-    };
-    let x = page_calls::protect(
+    let s = Shape::one_line(frames, uncached, processes, lines);
+    let r = page_calls::protect(
         s,
         slots,
         words,
         records,
         cache,
         memory,
-        &none,
+        &[],
         page,
         write != 0,
     );
-    crossing::packed_answer(x)
+    crossing::packed_call(r)
 }
 
 // Moves a page: its frame gets the new page, and keeps its bytes (CR 9).
@@ -269,18 +219,11 @@ pub extern "C" fn oaledva_move(
 ) -> u64
     ensures { (tag : Pending) → Move (one_line frames uncached processes lines) (board slots.now words.old records.old cache.now memory.old tag) page new_page (unpacked result) (board slots.now words.new records.new cache.now memory.new tag) }
 {
-    let none: [[[u8; 4]; 4]; 0] = [];
-    let s = Shape {
-        frames: frames,
-        uncached: uncached,
-        processes: processes,
-        lines: lines,
-        ways: 1,
-    };
-    let x = move_call::move_page(
-        s, slots, words, records, cache, memory, &none, page, new_page,
+    let s = Shape::one_line(frames, uncached, processes, lines);
+    let r = move_call::move_page(
+        s, slots, words, records, cache, memory, &[], page, new_page,
     );
-    crossing::packed_answer(x)
+    crossing::packed_call(r)
 }
 
 // Writes back every changed line and drops all.
@@ -298,16 +241,9 @@ pub extern "C" fn oaledva_flush_all(
 ) -> u64
     ensures { (tag : Pending) → FlushAll (one_line frames uncached processes lines) (board slots.now words.now records.old cache.now memory.old tag) (unpacked result) (board slots.now words.now records.new cache.now memory.new tag) }
 {
-    let none: [[[u8; 4]; 4]; 0] = [];
-    let s = Shape {
-        frames: frames,
-        uncached: uncached,
-        processes: processes,
-        lines: lines,
-        ways: 1,
-    };
-    let x = line_calls::flush_all(s, slots, words, records, cache, memory, &none);
-    crossing::packed_answer(x)
+    let s = Shape::one_line(frames, uncached, processes, lines);
+    let r = line_calls::flush_all(s, slots, words, records, cache, memory, &[]);
+    crossing::packed_call(r)
 }
 
 // Remembers a line name.
@@ -328,21 +264,11 @@ pub extern "C" fn oaledva_tag(
 ) -> u64
     ensures { Meets (Tag (one_line frames uncached processes lines) (board slots.now words.now records.now cache.now memory.now (tag_of set.old name.old)) line) set.old (returned result slots.now words.now records.now cache.now memory.now set.new name.new) }
 {
-    let s = Shape {
-        frames: frames,
-        uncached: uncached,
-        processes: processes,
-        lines: lines,
-        ways: 1,
-    };
-    let tag = Pending {
-        set: *set != 0,
-        name: *name,
-    };
-    let x = tag_calls::tag(s, slots, words, records, cache, memory, tag, line);
-    *set = crossing::word_after(*set, x.tag.set);
-    *name = x.tag.name;
-    crossing::packed_answer(x.answer)
+    let s = Shape::one_line(frames, uncached, processes, lines);
+    let mut tag = crossing::tag_of(*set, *name);
+    let r = tag_calls::tag(s, slots, words, records, cache, memory, &[], &mut tag, line);
+    crossing::put_tag(tag, set, name);
+    crossing::packed_call(r)
 }
 
 // Loads the line of the pending name, and forgets the name.
@@ -363,21 +289,11 @@ pub extern "C" fn oaledva_load_and_map(
 ) -> u64
     ensures { Meets (LoadAndMap (one_line frames uncached processes lines) (board slots.now words.now records.old cache.old memory.old (tag_of set.old name.old)) line) set.old (returned result slots.now words.now records.new cache.new memory.new set.new name.new) }
 {
-    let s = Shape {
-        frames: frames,
-        uncached: uncached,
-        processes: processes,
-        lines: lines,
-        ways: 1,
-    };
-    let tag = Pending {
-        set: *set != 0,
-        name: *name,
-    };
-    let x = load_call::load_and_map(s, slots, words, records, cache, memory, tag, line);
-    *set = crossing::word_after(*set, x.tag.set);
-    *name = x.tag.name;
-    crossing::packed_answer(x.answer)
+    let s = Shape::one_line(frames, uncached, processes, lines);
+    let mut tag = crossing::tag_of(*set, *name);
+    let r = load_call::load_and_map(s, slots, words, records, cache, memory, &mut [], &mut tag, line);
+    crossing::put_tag(tag, set, name);
+    crossing::packed_call(r)
 }
 
 // Forgets the pending name.
@@ -397,21 +313,11 @@ pub extern "C" fn oaledva_drop_tag(
 ) -> u64
     ensures { Meets (DropTag (one_line frames uncached processes lines) (board slots.now words.now records.now cache.now memory.now (tag_of set.old name.old))) set.old (returned result slots.now words.now records.now cache.now memory.now set.new name.new) }
 {
-    let s = Shape {
-        frames: frames,
-        uncached: uncached,
-        processes: processes,
-        lines: lines,
-        ways: 1,
-    };
-    let tag = Pending {
-        set: *set != 0,
-        name: *name,
-    };
-    let x = tag_calls::drop_tag(s, slots, words, records, cache, memory, tag);
-    *set = crossing::word_after(*set, x.tag.set);
-    *name = x.tag.name;
-    crossing::packed_answer(x.answer)
+    let s = Shape::one_line(frames, uncached, processes, lines);
+    let mut tag = crossing::tag_of(*set, *name);
+    let r = tag_calls::drop_tag(s, slots, words, records, cache, memory, &[], &mut tag);
+    crossing::put_tag(tag, set, name);
+    crossing::packed_call(r)
 }
 
 // The number that look gives.
@@ -430,15 +336,9 @@ pub extern "C" fn oaledva_look_number(
 ) -> u32
     ensures { (tag : Pending) → LookNumber (one_line frames uncached processes lines) (board slots.now words.now records.now cache.now memory.now tag) line result }
 {
-    let none: [[[u8; 4]; 4]; 0] = [];
-    let s = Shape {
-        frames: frames,
-        uncached: uncached,
-        processes: processes,
-        lines: lines,
-        ways: 1,
-    };
-    line_calls::look_number(s, slots, words, records, cache, memory, &none, line)
+    let s = Shape::one_line(frames, uncached, processes, lines);
+    let r = line_calls::look_check(s, slots, words, records, cache, memory, &[], line);
+    Answer::from(r).number
 }
 
 // Where the current sixteen bytes of a physical line stand in the caller's own buffers.
@@ -457,15 +357,8 @@ pub extern "C" fn oaledva_look(
 ) -> u64
     ensures { (tag : Pending) → LookPlace (one_line frames uncached processes lines) (board slots.now words.now records.now cache.now memory.now tag) line result }
 {
-    let none: [[[u8; 4]; 4]; 0] = [];
-    let s = Shape {
-        frames: frames,
-        uncached: uncached,
-        processes: processes,
-        lines: lines,
-        ways: 1,
-    };
-    look_place::place(s, slots, words, records, cache, memory, &none, line)
+    let s = Shape::one_line(frames, uncached, processes, lines);
+    look_place::place(s, slots, words, records, cache, memory, &[], line)
 }
 
 // Where the page table entry of a page stands. It asks no board.

@@ -8,7 +8,7 @@ ghost use Rattle.machine.specs.Clauses.{UserAccesses};
 ghost use Rattle.crossing.specs.Packing.{unpacked, unpacked_all, tag_of};
 ghost use Rattle.machine.specs.Boards.{board};
 
-use board::{Pending, Shape};
+use board::Shape;
 
 // A list of user accesses: five numbers for each in `accesses`, an answer for each in `answers`.
 #[unsafe(no_mangle)]
@@ -29,20 +29,10 @@ pub extern "C" fn oaledva_user_accesses(
 ) -> u64
     ensures { UserAccesses (one_line frames uncached processes lines) (board slots.now words.now records.old cache.old memory.old (tag_of set name)) accesses.now (unpacked_all answers.old) (unpacked result) (answered (unpacked_all answers.new) (board slots.now words.now records.new cache.new memory.new (tag_of set name))) }
 {
-    let mut none: [[[u8; 4]; 4]; 0] = [];
-    let s = Shape {
-        frames: frames,
-        uncached: uncached,
-        processes: processes,
-        lines: lines,
-        ways: 1,
-    };
-    let tag = Pending {
-        set: set != 0,
-        name: name,
-    };
-    let x = user_lists::user_accesses(
-        s, slots, words, records, cache, memory, &mut none, tag, accesses, answers,
+    let s = Shape::one_line(frames, uncached, processes, lines);
+    let tag = crossing::tag_of(set, name);
+    let r = user_lists::user_accesses(
+        s, slots, words, records, cache, memory, &mut [], tag, accesses, answers,
     );
-    crossing::packed_answer(x)
+    crossing::packed_call(r)
 }

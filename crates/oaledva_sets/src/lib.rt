@@ -13,8 +13,7 @@ ghost use Rattle.look_place.specs.Lends.{LookPlace};
 ghost use Rattle.machine.specs.Boards.{sets_board};
 
 use address::Global;
-use board::{Pending, SET_LINES, Shape};
-use stores::Access;
+use board::{Answer, Shape};
 
 // A supervisor's load or store by global address.
 #[unsafe(no_mangle)]
@@ -38,23 +37,10 @@ pub extern "C" fn oaledva_sets_supervisor_access(
 ) -> u64
     ensures { SupervisorAccess (four_lines frames uncached processes lines) (sets_board slots.now words.now records.old cache.old memory.old uses.old (tag_of set name)) (access store width value) (global address) (unpacked result) (sets_board slots.now words.now records.new cache.new memory.new uses.new (tag_of set name)) }
 {
-    let s = Shape {
-        frames: frames,
-        uncached: uncached,
-        processes: processes,
-        lines: lines,
-        ways: SET_LINES,
-    };
-    let tag = Pending {
-        set: set != 0,
-        name: name,
-    };
-    let a = Access {
-        store: store != 0,
-        width: width,
-        value: value,
-    };
-    let x = supervisor_access::supervisor_access(
+    let s = Shape::four_lines(frames, uncached, processes, lines);
+    let tag = crossing::tag_of(set, name);
+    let a = crossing::access(store, width, value);
+    let r = supervisor_access::supervisor_access(
         s,
         slots,
         words,
@@ -66,7 +52,7 @@ pub extern "C" fn oaledva_sets_supervisor_access(
         a,
         Global(address),
     );
-    crossing::packed_answer(x)
+    crossing::packed_access(r)
 }
 
 // Attaches a segment to a slot of a process.
@@ -89,14 +75,8 @@ pub extern "C" fn oaledva_sets_attach(
 ) -> u64
     ensures { (tag : Pending) → Attach (four_lines frames uncached processes lines) (sets_board slots.old words.now records.now cache.now memory.now uses.now tag) process slot segment (is_yes write) (unpacked result) (sets_board slots.new words.now records.now cache.now memory.now uses.now tag) }
 {
-    let s = Shape {
-        frames: frames,
-        uncached: uncached,
-        processes: processes,
-        lines: lines,
-        ways: SET_LINES,
-    };
-    let x = slot_calls::attach(
+    let s = Shape::four_lines(frames, uncached, processes, lines);
+    let r = slot_calls::attach(
         s,
         slots,
         words,
@@ -109,7 +89,7 @@ pub extern "C" fn oaledva_sets_attach(
         segment,
         write != 0,
     );
-    crossing::packed_answer(x)
+    crossing::packed_call(r)
 }
 
 // Empties a slot of a process.
@@ -130,15 +110,9 @@ pub extern "C" fn oaledva_sets_detach(
 ) -> u64
     ensures { (tag : Pending) → Detach (four_lines frames uncached processes lines) (sets_board slots.old words.now records.now cache.now memory.now uses.now tag) process slot (unpacked result) (sets_board slots.new words.now records.now cache.now memory.now uses.now tag) }
 {
-    let s = Shape {
-        frames: frames,
-        uncached: uncached,
-        processes: processes,
-        lines: lines,
-        ways: SET_LINES,
-    };
-    let x = slot_calls::detach(s, slots, words, records, cache, memory, uses, process, slot);
-    crossing::packed_answer(x)
+    let s = Shape::four_lines(frames, uncached, processes, lines);
+    let r = slot_calls::detach(s, slots, words, records, cache, memory, uses, process, slot);
+    crossing::packed_call(r)
 }
 
 // Maps a page to a frame.
@@ -160,14 +134,8 @@ pub extern "C" fn oaledva_sets_map(
 ) -> u64
     ensures { (tag : Pending) → Map (four_lines frames uncached processes lines) (sets_board slots.now words.old records.old cache.now memory.old uses.now tag) page frame (is_yes write) (unpacked result) (sets_board slots.now words.new records.new cache.now memory.new uses.now tag) }
 {
-    let s = Shape {
-        frames: frames,
-        uncached: uncached,
-        processes: processes,
-        lines: lines,
-        ways: SET_LINES,
-    };
-    let x = map_call::map(
+    let s = Shape::four_lines(frames, uncached, processes, lines);
+    let r = map_call::map(
         s,
         slots,
         words,
@@ -179,7 +147,7 @@ pub extern "C" fn oaledva_sets_map(
         frame,
         write != 0,
     );
-    crossing::packed_answer(x)
+    crossing::packed_call(r)
 }
 
 // Unmaps a page.
@@ -199,15 +167,9 @@ pub extern "C" fn oaledva_sets_unmap(
 ) -> u64
     ensures { (tag : Pending) → Unmap (four_lines frames uncached processes lines) (sets_board slots.now words.old records.old cache.now memory.old uses.now tag) page (unpacked result) (sets_board slots.now words.new records.new cache.now memory.new uses.now tag) }
 {
-    let s = Shape {
-        frames: frames,
-        uncached: uncached,
-        processes: processes,
-        lines: lines,
-        ways: SET_LINES,
-    };
-    let x = page_calls::unmap(s, slots, words, records, cache, memory, uses, page);
-    crossing::packed_answer(x)
+    let s = Shape::four_lines(frames, uncached, processes, lines);
+    let r = page_calls::unmap(s, slots, words, records, cache, memory, uses, page);
+    crossing::packed_call(r)
 }
 
 // Changes a page's write bit.
@@ -228,14 +190,8 @@ pub extern "C" fn oaledva_sets_protect(
 ) -> u64
     ensures { (tag : Pending) → Protect (four_lines frames uncached processes lines) (sets_board slots.now words.old records.old cache.now memory.old uses.now tag) page (is_yes write) (unpacked result) (sets_board slots.now words.new records.new cache.now memory.new uses.now tag) }
 {
-    let s = Shape {
-        frames: frames,
-        uncached: uncached,
-        processes: processes,
-        lines: lines,
-        ways: SET_LINES,
-    };
-    let x = page_calls::protect(
+    let s = Shape::four_lines(frames, uncached, processes, lines);
+    let r = page_calls::protect(
         s,
         slots,
         words,
@@ -246,7 +202,7 @@ pub extern "C" fn oaledva_sets_protect(
         page,
         write != 0,
     );
-    crossing::packed_answer(x)
+    crossing::packed_call(r)
 }
 
 // Moves a page: its frame gets the new page, and keeps its bytes (CR 9).
@@ -267,17 +223,11 @@ pub extern "C" fn oaledva_sets_move(
 ) -> u64
     ensures { (tag : Pending) → Move (four_lines frames uncached processes lines) (sets_board slots.now words.old records.old cache.now memory.old uses.now tag) page new_page (unpacked result) (sets_board slots.now words.new records.new cache.now memory.new uses.now tag) }
 {
-    let s = Shape {
-        frames: frames,
-        uncached: uncached,
-        processes: processes,
-        lines: lines,
-        ways: SET_LINES,
-    };
-    let x = move_call::move_page(
+    let s = Shape::four_lines(frames, uncached, processes, lines);
+    let r = move_call::move_page(
         s, slots, words, records, cache, memory, uses, page, new_page,
     );
-    crossing::packed_answer(x)
+    crossing::packed_call(r)
 }
 
 // Writes back every changed line and drops all.
@@ -296,15 +246,9 @@ pub extern "C" fn oaledva_sets_flush_all(
 ) -> u64
     ensures { (tag : Pending) → FlushAll (four_lines frames uncached processes lines) (sets_board slots.now words.now records.old cache.now memory.old uses.now tag) (unpacked result) (sets_board slots.now words.now records.new cache.now memory.new uses.now tag) }
 {
-    let s = Shape {
-        frames: frames,
-        uncached: uncached,
-        processes: processes,
-        lines: lines,
-        ways: SET_LINES,
-    };
-    let x = line_calls::flush_all(s, slots, words, records, cache, memory, uses);
-    crossing::packed_answer(x)
+    let s = Shape::four_lines(frames, uncached, processes, lines);
+    let r = line_calls::flush_all(s, slots, words, records, cache, memory, uses);
+    crossing::packed_call(r)
 }
 
 // Remembers a line name.
@@ -326,21 +270,11 @@ pub extern "C" fn oaledva_sets_tag(
 ) -> u64
     ensures { Meets (Tag (four_lines frames uncached processes lines) (sets_board slots.now words.now records.now cache.now memory.now uses.now (tag_of set.old name.old)) line) set.old (sets_returned result slots.now words.now records.now cache.now memory.now uses.now set.new name.new) }
 {
-    let s = Shape {
-        frames: frames,
-        uncached: uncached,
-        processes: processes,
-        lines: lines,
-        ways: SET_LINES,
-    };
-    let tag = Pending {
-        set: *set != 0,
-        name: *name,
-    };
-    let x = tag_calls::tag_with(s, slots, words, records, cache, memory, uses, tag, line);
-    *set = crossing::word_after(*set, x.tag.set);
-    *name = x.tag.name;
-    crossing::packed_answer(x.answer)
+    let s = Shape::four_lines(frames, uncached, processes, lines);
+    let mut tag = crossing::tag_of(*set, *name);
+    let r = tag_calls::tag(s, slots, words, records, cache, memory, uses, &mut tag, line);
+    crossing::put_tag(tag, set, name);
+    crossing::packed_call(r)
 }
 
 // Loads the line of the pending name, and forgets the name.
@@ -362,21 +296,11 @@ pub extern "C" fn oaledva_sets_load_and_map(
 ) -> u64
     ensures { Meets (LoadAndMap (four_lines frames uncached processes lines) (sets_board slots.now words.now records.old cache.old memory.old uses.old (tag_of set.old name.old)) line) set.old (sets_returned result slots.now words.now records.new cache.new memory.new uses.new set.new name.new) }
 {
-    let s = Shape {
-        frames: frames,
-        uncached: uncached,
-        processes: processes,
-        lines: lines,
-        ways: SET_LINES,
-    };
-    let tag = Pending {
-        set: *set != 0,
-        name: *name,
-    };
-    let x = load_call::load_and_map_with(s, slots, words, records, cache, memory, uses, tag, line);
-    *set = crossing::word_after(*set, x.tag.set);
-    *name = x.tag.name;
-    crossing::packed_answer(x.answer)
+    let s = Shape::four_lines(frames, uncached, processes, lines);
+    let mut tag = crossing::tag_of(*set, *name);
+    let r = load_call::load_and_map(s, slots, words, records, cache, memory, uses, &mut tag, line);
+    crossing::put_tag(tag, set, name);
+    crossing::packed_call(r)
 }
 
 // Forgets the pending name.
@@ -397,21 +321,11 @@ pub extern "C" fn oaledva_sets_drop_tag(
 ) -> u64
     ensures { Meets (DropTag (four_lines frames uncached processes lines) (sets_board slots.now words.now records.now cache.now memory.now uses.now (tag_of set.old name.old))) set.old (sets_returned result slots.now words.now records.now cache.now memory.now uses.now set.new name.new) }
 {
-    let s = Shape {
-        frames: frames,
-        uncached: uncached,
-        processes: processes,
-        lines: lines,
-        ways: SET_LINES,
-    };
-    let tag = Pending {
-        set: *set != 0,
-        name: *name,
-    };
-    let x = tag_calls::drop_tag_with(s, slots, words, records, cache, memory, uses, tag);
-    *set = crossing::word_after(*set, x.tag.set);
-    *name = x.tag.name;
-    crossing::packed_answer(x.answer)
+    let s = Shape::four_lines(frames, uncached, processes, lines);
+    let mut tag = crossing::tag_of(*set, *name);
+    let r = tag_calls::drop_tag(s, slots, words, records, cache, memory, uses, &mut tag);
+    crossing::put_tag(tag, set, name);
+    crossing::packed_call(r)
 }
 
 // The number that look gives.
@@ -431,14 +345,9 @@ pub extern "C" fn oaledva_sets_look_number(
 ) -> u32
     ensures { (tag : Pending) → LookNumber (four_lines frames uncached processes lines) (sets_board slots.now words.now records.now cache.now memory.now uses.now tag) line result }
 {
-    let s = Shape {
-        frames: frames,
-        uncached: uncached,
-        processes: processes,
-        lines: lines,
-        ways: SET_LINES,
-    };
-    line_calls::look_number(s, slots, words, records, cache, memory, uses, line)
+    let s = Shape::four_lines(frames, uncached, processes, lines);
+    let r = line_calls::look_check(s, slots, words, records, cache, memory, uses, line);
+    Answer::from(r).number
 }
 
 // Where the current sixteen bytes of a physical line stand in the caller's own buffers.
@@ -458,12 +367,6 @@ pub extern "C" fn oaledva_sets_look(
 ) -> u64
     ensures { (tag : Pending) → LookPlace (four_lines frames uncached processes lines) (sets_board slots.now words.now records.now cache.now memory.now uses.now tag) line result }
 {
-    let s = Shape {
-        frames: frames,
-        uncached: uncached,
-        processes: processes,
-        lines: lines,
-        ways: SET_LINES,
-    };
+    let s = Shape::four_lines(frames, uncached, processes, lines);
     look_place::place(s, slots, words, records, cache, memory, uses, line)
 }

@@ -8,7 +8,7 @@ ghost use Rattle.machine.specs.Clauses.{UserAccesses};
 ghost use Rattle.crossing.specs.Packing.{unpacked, unpacked_all, tag_of};
 ghost use Rattle.machine.specs.Boards.{sets_board};
 
-use board::{Pending, SET_LINES, Shape};
+use board::Shape;
 
 // A list of user accesses: five numbers for each in `accesses`, an answer for each in `answers`.
 #[unsafe(no_mangle)]
@@ -30,19 +30,10 @@ pub extern "C" fn oaledva_sets_user_accesses(
 ) -> u64
     ensures { UserAccesses (four_lines frames uncached processes lines) (sets_board slots.now words.now records.old cache.old memory.old uses.old (tag_of set name)) accesses.now (unpacked_all answers.old) (unpacked result) (answered (unpacked_all answers.new) (sets_board slots.now words.now records.new cache.new memory.new uses.new (tag_of set name))) }
 {
-    let s = Shape {
-        frames: frames,
-        uncached: uncached,
-        processes: processes,
-        lines: lines,
-        ways: SET_LINES,
-    };
-    let tag = Pending {
-        set: set != 0,
-        name: name,
-    };
-    let x = user_lists::user_accesses(
+    let s = Shape::four_lines(frames, uncached, processes, lines);
+    let tag = crossing::tag_of(set, name);
+    let r = user_lists::user_accesses(
         s, slots, words, records, cache, memory, uses, tag, accesses, answers,
     );
-    crossing::packed_answer(x)
+    crossing::packed_call(r)
 }

@@ -9,8 +9,7 @@ ghost use Rattle.crossing.specs.Packing.{unpacked, tag_of, access};
 ghost use Rattle.machine.specs.Boards.{sets_board};
 
 use address::Effective;
-use board::{Pending, SET_LINES, Shape};
-use stores::Access;
+use board::Shape;
 
 // A user's load or store.
 #[unsafe(no_mangle)]
@@ -35,23 +34,10 @@ pub extern "C" fn oaledva_sets_user_access(
 ) -> u64
     ensures { UserAccess (four_lines frames uncached processes lines) (sets_board slots.now words.now records.old cache.old memory.old uses.old (tag_of set name)) process (access store width value) (effective address) (unpacked result) (sets_board slots.now words.now records.new cache.new memory.new uses.new (tag_of set name)) }
 {
-    let s = Shape {
-        frames: frames,
-        uncached: uncached,
-        processes: processes,
-        lines: lines,
-        ways: SET_LINES,
-    };
-    let tag = Pending {
-        set: set != 0,
-        name: name,
-    };
-    let a = Access {
-        store: store != 0,
-        width: width,
-        value: value,
-    };
-    let x = user_access::user_access(
+    let s = Shape::four_lines(frames, uncached, processes, lines);
+    let tag = crossing::tag_of(set, name);
+    let a = crossing::access(store, width, value);
+    let r = user_access::user_access(
         s,
         slots,
         words,
@@ -64,5 +50,5 @@ pub extern "C" fn oaledva_sets_user_access(
         a,
         Effective(address),
     );
-    crossing::packed_answer(x)
+    crossing::packed_access(r)
 }

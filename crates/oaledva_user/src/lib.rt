@@ -9,8 +9,7 @@ ghost use Rattle.crossing.specs.Packing.{unpacked, tag_of, access};
 ghost use Rattle.machine.specs.Boards.{board};
 
 use address::Effective;
-use board::{Pending, Shape};
-use stores::Access;
+use board::Shape;
 
 // A user's load or store.
 #[unsafe(no_mangle)]
@@ -34,35 +33,21 @@ pub extern "C" fn oaledva_user_access(
 ) -> u64
     ensures { UserAccess (one_line frames uncached processes lines) (board slots.now words.now records.old cache.old memory.old (tag_of set name)) process (access store width value) (effective address) (unpacked result) (board slots.now words.now records.new cache.new memory.new (tag_of set name)) }
 {
-    let mut none: [[[u8; 4]; 4]; 0] = [];
-    let s = Shape {
-        frames: frames,
-        uncached: uncached,
-        processes: processes,
-        lines: lines,
-        ways: 1,
-    };
-    let tag = Pending {
-        set: set != 0,
-        name: name,
-    };
-    let a = Access {
-        store: store != 0,
-        width: width,
-        value: value,
-    };
-    let x = user_access::user_access(
+    let s = Shape::one_line(frames, uncached, processes, lines);
+    let tag = crossing::tag_of(set, name);
+    let a = crossing::access(store, width, value);
+    let r = user_access::user_access(
         s,
         slots,
         words,
         records,
         cache,
         memory,
-        &mut none,
+        &mut [],
         tag,
         process,
         a,
         Effective(address),
     );
-    crossing::packed_answer(x)
+    crossing::packed_access(r)
 }

@@ -5,9 +5,8 @@
 
 ghost use Rattle.std.specs.Prelude.{◌≤◌};
 
-use board::{MAX_FRAMES, MAX_LINES, MAX_PROCESSES, PROCESS_SLOTS, Shape};
+use board::{Answer, MAX_FRAMES, MAX_LINES, MAX_PROCESSES, PROCESS_SLOTS, Refusal, Shape};
 use lines::Line;
-use record_bridges::TwoLines;
 use std::io;
 
 const PAGE: u64 = 2097152;
@@ -54,17 +53,11 @@ fn sized(
     memory: usize,
 ) -> Sizes {
     Sizes {
-        shape: Shape {
-            frames: frames,
-            uncached: uncached,
-            processes: processes,
-            lines: lines,
-            ways: 1,
-        },
-        slots: slots,
-        words: words,
-        cache: cache,
-        memory: memory,
+        shape: Shape::one_line(frames, uncached, processes, lines),
+        slots,
+        words,
+        cache,
+        memory,
     }
 }
 
@@ -95,10 +88,10 @@ fn given(row: u64) -> Sizes {
 // A line that may be written.
 fn line(valid: bool, name: u64, physical: u64, changed: bool) -> Line {
     Line {
-        valid: valid,
-        name: name,
-        physical: physical,
-        changed: changed,
+        valid,
+        name,
+        physical,
+        changed,
         write: true,
     }
 }
@@ -159,94 +152,23 @@ fn shown(row: u64) -> usize
     }
 }
 
-fn least(a: usize, b: usize) -> usize
-    ensures { (result ≤ a) × (result ≤ b) }
-{
-    if a < b { a } else { b }
-}
-
-fn protect(
-    z: Sizes,
-    slots: &[u32],
-    words: &mut [u64],
-    ls: [Line; 2],
-    cache: &[u8],
-    memory: &[u8],
-    page: u64,
-) -> TwoLines {
-    let s = least(z.slots, slots.len());
-    let w = least(z.words, words.len());
-    let c = least(z.cache, cache.len());
-    let m = least(z.memory, memory.len());
-    record_bridges::protect_two(
-        z.shape,
-        &slots[0..s],
-        &mut words[0..w],
-        ls,
-        &cache[0..c],
-        &memory[0..m],
-        page,
-        false,
-    )
-}
-
-fn flush(
-    z: Sizes,
-    slots: &[u32],
-    words: &[u64],
-    ls: [Line; 2],
-    cache: &[u8],
-    memory: &mut [u8],
-) -> TwoLines {
-    let s = least(z.slots, slots.len());
-    let w = least(z.words, words.len());
-    let c = least(z.cache, cache.len());
-    let m = least(z.memory, memory.len());
-    record_bridges::flush_two(
-        z.shape,
-        &slots[0..s],
-        &words[0..w],
-        ls,
-        &cache[0..c],
-        &mut memory[0..m],
-    )
-}
-
-fn write_field(rt: &impl Print, x: u64, end: &str) -> io::Result<()> {
-    print!(rt; "{x}{end}")
-}
-
 fn write_line(rt: &impl Print, l: Line) -> io::Result<()> {
-    write_field(rt, board::bit_of(l.valid), " ")?;
-    write_field(rt, l.name, " ")?;
-    write_field(rt, l.physical, " ")?;
-    write_field(rt, board::bit_of(l.changed), " ")?;
-    write_field(rt, board::bit_of(l.write), " ")
-}
-
-fn wide(x: u8) -> u64 {
-    x as u64
-}
-
-// The byte of memory at this place, and the next.
-fn write_bytes(rt: &impl Print, memory: &[u8], at: usize) -> io::Result<()>
-    requires { at ≤ 4094 }
-{
-    if at + 1 < memory.len() {
-        write_field(rt, wide(memory[at]), " ")?;
-        write_field(rt, wide(memory[at + 1]), "\n")?;
-    }
-    Ok(())
+    let valid = u64::from(l.valid);
+    let changed = u64::from(l.changed);
+    let write = u64::from(l.write);
+    print!(rt; "{valid} {} {} {changed} {write} ", l.name, l.physical)
 }
 
 // The answer and the lines.
-fn write_row(rt: &impl Print, row: u64, t: TwoLines) -> io::Result<()> {
-    write_field(rt, row, " ")?;
-    write_field(rt, t.answer.number as u64, " ")?;
-    write_field(rt, t.answer.value as u64, " ")?;
-    write_field(rt, t.answer.mark as u64, " ")?;
-    write_line(rt, t.lines[0])?;
-    write_line(rt, t.lines[1])
+fn write_row(
+    rt: &impl Print,
+    row: u64,
+    r: Result<(), Refusal>,
+    lines: &[Line; 2],
+) -> io::Result<()> {
+    print!(rt; "{row} {} ", Answer::from(r))?;
+    write_line(rt, lines[0])?;
+    write_line(rt, lines[1])
 }
 
 // Protect the page, read-only.
@@ -257,65 +179,64 @@ fn protect_row(
     cache: &[u8],
     memory: &[u8],
 ) -> io::Result<()> {
-    let mut words: [u64; 1] = [WORD];
-    let t = protect(
-        given(row),
-        slots,
-        &mut words,
-        protect_lines(row),
-        cache,
-        memory,
+    let z = given(row);
+    let mut words = [WORD];
+    let mut lines = protect_lines(row);
+    let r = records::protect(
+        z.shape,
+        &slots[..z.slots.min(slots.len())],
+        &mut words[..z.words.min(1)],
+        &mut lines,
+        &cache[..z.cache.min(cache.len())],
+        &memory[..z.memory.min(memory.len())],
         page(row),
+        false,
     );
-    write_row(rt, row, t)?;
-    write_field(rt, words[0], "\n")
+    write_row(rt, row, r, &lines)?;
+    println!(rt; "{}", words[0])
 }
 
-// Flush all.
+// Flush all, with the byte of memory that its row shows, and the one after it.
 fn flush_row(
     rt: &impl Print,
     row: u64,
     slots: &[u32],
     cache: &[u8],
-    memory: &mut [u8],
+    memory: &mut [u8; 4096],
 ) -> io::Result<()> {
-    let words: [u64; 1] = [WORD];
-    let t = flush(given(row), slots, &words, flush_lines(row), cache, memory);
-    write_row(rt, row, t)?;
-    write_bytes(rt, memory, shown(row))
+    let z = given(row);
+    let words = [WORD];
+    let mut lines = flush_lines(row);
+    let r = records::flush_all(
+        z.shape,
+        &slots[..z.slots.min(slots.len())],
+        &words[..z.words.min(1)],
+        &mut lines,
+        &cache[..z.cache.min(cache.len())],
+        &mut memory[..z.memory.min(4096)],
+    );
+    write_row(rt, row, r, &lines)?;
+    let at = shown(row);
+    println!(rt; "{} {}", memory[at], memory[at + 1])
 }
 
-fn protects(rt: &impl Print, slots: &[u32], cache: &[u8], memory: &[u8]) -> io::Result<()> {
-    for row in 1..=ROWS {
-        protect_row(rt, row, slots, cache, memory)?;
-    }
-    Ok(())
-}
-
-fn flushes(rt: &impl Print, slots: &[u32], cache: &[u8], memory: &mut [u8]) -> io::Result<()> {
-    for row in 1..=ROWS {
-        flush_row(rt, row, slots, cache, memory)?;
-    }
-    Ok(())
-}
-
-// The rows of both calls.
-fn rows(rt: &impl Print, slots: &[u32], cache: &[u8], memory: &mut [u8]) -> io::Result<()> {
-    println!(rt;
-        "protect: row number value mark, valid name physical changed write of line 0, of line 1, word"
-    )?;
-    protects(rt, slots, cache, memory)?;
-    println!(rt;
-        "flush all: row number value mark, valid name physical changed write of line 0, of line 1, two bytes"
-    )?;
-    flushes(rt, slots, cache, memory)
-}
-
-// Cache line 0 is all 5, line 1 begins with 9.
+// The rows of both calls. Cache line 0 is all 5, line 1 begins with 9.
 fn main(rt: HostRuntime) -> io::Result<()> {
     let slots: [u32; OVER_SLOTS] = [0; OVER_SLOTS];
     let mut cache: [u8; 32] = [5; 32];
     cache[16] = 9;
     let mut memory: [u8; 4096] = [0; 4096];
-    rows(&rt, &slots, &cache, &mut memory)
+    println!(rt;
+        "protect: row number value mark, valid name physical changed write of line 0, of line 1, word"
+    )?;
+    for row in 1..=ROWS {
+        protect_row(&rt, row, &slots, &cache, &memory)?;
+    }
+    println!(rt;
+        "flush all: row number value mark, valid name physical changed write of line 0, of line 1, two bytes"
+    )?;
+    for row in 1..=ROWS {
+        flush_row(&rt, row, &slots, &cache, &mut memory)?;
+    }
+    Ok(())
 }

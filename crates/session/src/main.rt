@@ -15,6 +15,15 @@ const SEGMENT: u64 = 2048;
 // How many calls the session has.
 const CALLS: u64 = 12;
 
+// The board's buffers.
+struct Board {
+    slots: [u32; 1024],
+    words: [u64; 4],
+    records: [u64; 4],
+    cache: [u8; 32],
+    memory: [u8; 16384],
+}
+
 // A call of the session: a map with its write bit, the attach, the unmap, or a user access (process, access, address).
 #[derive(Clone, Copy)]
 pub enum Asked {
@@ -35,8 +44,8 @@ fn load() -> Access {
 fn store(width: u32, value: u32) -> Access {
     Access {
         store: true,
-        width: width,
-        value: value,
+        width,
+        value,
     }
 }
 
@@ -55,114 +64,79 @@ fn call(number: u64) -> Asked {
     }
 }
 
-fn shape() -> Shape {
-    Shape {
-        frames: 4,
-        uncached: 1,
-        processes: 2,
-        lines: 2,
-        ways: 1,
+impl Board {
+    // Fresh, with memory that is not zero.
+    fn fresh() -> Board {
+        Board {
+            slots: [0; 1024],
+            words: [0; 4],
+            records: [0; 4],
+            cache: [7; 32],
+            memory: [7; 16384],
+        }
     }
-}
 
-// One call.
-fn answer(
-    slots: &mut [u32],
-    words: &mut [u64],
-    records: &mut [u64],
-    cache: &mut [u8],
-    memory: &mut [u8],
-    c: Asked,
-) -> Answer {
-    let mut none: [[[u8; 4]; 4]; 0] = [];
-    match c {
-        Asked::Map(write) => map_call::map(
-            shape(),
-            slots,
-            words,
-            records,
-            cache,
-            memory,
-            &none,
-            PAGE,
-            FRAME,
-            write,
-        ),
-        Asked::Attach => slot_calls::attach(
-            shape(),
-            slots,
-            words,
-            records,
-            cache,
-            memory,
-            &none,
-            0,
-            0,
-            SEGMENT,
-            true,
-        ),
-        Asked::Unmap => page_calls::unmap(
-            shape(),
-            slots,
-            words,
-            records,
-            cache,
-            memory,
-            &none,
-            PAGE,
-        ),
-        Asked::User(process, a, address) => {
-            let tag = Pending {
-                set: false,
-                name: 0,
-            };
-            user_access::user_access(
-                shape(),
-                slots,
-                words,
-                records,
-                cache,
-                memory,
-                &mut none,
-                tag,
+    // One call.
+    fn answer(&mut self, c: Asked) -> Answer {
+        let s = Shape::one_line(4, 1, 2, 2);
+        match c {
+            Asked::Map(write) => Answer::from(map_call::map(
+                s,
+                &self.slots,
+                &mut self.words,
+                &mut self.records,
+                &self.cache,
+                &mut self.memory,
+                &[],
+                PAGE,
+                FRAME,
+                write,
+            )),
+            Asked::Attach => Answer::from(slot_calls::attach(
+                s,
+                &mut self.slots,
+                &self.words,
+                &self.records,
+                &self.cache,
+                &self.memory,
+                &[],
+                0,
+                0,
+                SEGMENT,
+                true,
+            )),
+            Asked::Unmap => Answer::from(page_calls::unmap(
+                s,
+                &self.slots,
+                &mut self.words,
+                &mut self.records,
+                &self.cache,
+                &mut self.memory,
+                &[],
+                PAGE,
+            )),
+            Asked::User(process, a, address) => Answer::from(user_access::user_access(
+                s,
+                &self.slots,
+                &self.words,
+                &mut self.records,
+                &mut self.cache,
+                &mut self.memory,
+                &mut [],
+                Pending::none(),
                 process,
                 a,
                 Effective(address),
-            )
+            )),
         }
     }
 }
 
-fn write_field(rt: &impl Print, x: u64, end: &str) -> io::Result<()> {
-    print!(rt; "{x}{end}")
-}
-
-// A row of the table.
-fn write_row(rt: &impl Print, call: u64, a: Answer) -> io::Result<()> {
-    write_field(rt, call, " ")?;
-    write_field(rt, a.number as u64, " ")?;
-    write_field(rt, a.value as u64, " ")?;
-    write_field(rt, a.mark as u64, "\n")
-}
-
-// A fresh board, with memory that is not zero, and the calls on it.
 fn main(rt: HostRuntime) -> io::Result<()> {
-    let mut slots: [u32; 1024] = [0; 1024];
-    let mut words: [u64; 4] = [0; 4];
-    let mut records: [u64; 4] = [0; 4];
-    let mut cache: [u8; 32] = [7; 32];
-    let mut memory: [u8; 16384] = [7; 16384];
+    let mut board = Board::fresh();
     println!(rt; "call answer value hit")?;
     for number in 1..=CALLS {
-        let a = answer(
-            &mut slots,
-            &mut words,
-            &mut records,
-            &mut cache,
-            &mut memory,
-            call(number),
-        );
-        write_row(&rt, number, a)?;
+        println!(rt; "{number} {}", board.answer(call(number)))?;
     }
     Ok(())
 }

@@ -1,9 +1,8 @@
 // Runs tag, load-and-map and drop tag on a small board (F 4, U 1, L 2, P 2), and writes the answer and the tag after each.
 #![tactic(auto)]
 
-use board::{Pending, Shape};
+use board::{Answer, Pending, Refusal, Shape};
 use std::io;
-use tag_calls::Tagged;
 
 const PAGE: u64 = 2097152;
 
@@ -16,6 +15,16 @@ const LINE: usize = 256;
 
 // How many calls there are.
 const CALLS: u64 = 13;
+
+// The board's buffers, and its tag.
+struct Board {
+    slots: [u32; 1024],
+    words: [u64; 4],
+    records: [u64; 4],
+    cache: [u8; 32],
+    memory: [u8; 16384],
+    pending: Pending,
+}
 
 // A call: tag with a name, load-and-map with a physical line, the map, or drop tag on a board of so many frames.
 #[derive(Clone, Copy)]
@@ -51,135 +60,88 @@ fn call(number: u64) -> Asked {
 }
 
 fn shape(frames: usize) -> Shape {
-    Shape {
-        frames: frames,
-        uncached: 1,
-        processes: 2,
-        lines: 2,
-        ways: 1,
-    }
+    Shape::one_line(frames, 1, 2, 2)
 }
 
-// One call: its answer, and the tag for the next one.
-fn answer(
-    slots: &[u32],
-    words: &mut [u64],
-    records: &mut [u64],
-    cache: &mut [u8],
-    memory: &mut [u8],
-    pending: Pending,
-    c: Asked,
-) -> Tagged {
-    let none: [[[u8; 4]; 4]; 0] = [];
-    match c {
-        Asked::Tag(name) => tag_bridges::tag_through(
-            shape(4),
-            slots,
-            words,
-            records,
-            cache,
-            memory,
-            pending,
-            name,
-        ),
-        Asked::Load(line) => tag_bridges::load_and_map_through(
-            shape(4),
-            slots,
-            words,
-            records,
-            cache,
-            memory,
-            pending,
-            line,
-        ),
-        Asked::Map => {
-            let answer = map_call::map(
+impl Board {
+    // Fresh, with cache bytes and memory that are not zero.
+    fn fresh() -> Board {
+        Board {
+            slots: [0; 1024],
+            words: [0; 4],
+            records: [0; 4],
+            cache: [7; 32],
+            memory: [7; 16384],
+            pending: Pending::none(),
+        }
+    }
+
+    // One call.
+    fn make(&mut self, c: Asked) -> Result<(), Refusal> {
+        match c {
+            Asked::Tag(name) => tag_calls::tag(
                 shape(4),
-                slots,
-                words,
-                records,
-                cache,
-                memory,
-                &none,
+                &self.slots,
+                &self.words,
+                &self.records,
+                &self.cache,
+                &self.memory,
+                &[],
+                &mut self.pending,
+                name,
+            ),
+            Asked::Load(line) => load_call::load_and_map(
+                shape(4),
+                &self.slots,
+                &self.words,
+                &mut self.records,
+                &mut self.cache,
+                &mut self.memory,
+                &mut [],
+                &mut self.pending,
+                line,
+            ),
+            Asked::Map => map_call::map(
+                shape(4),
+                &self.slots,
+                &mut self.words,
+                &mut self.records,
+                &self.cache,
+                &mut self.memory,
+                &[],
                 PAGE,
                 FRAME,
                 true,
-            );
-            Tagged {
-                answer: answer,
-                tag: pending,
-            }
+            ),
+            Asked::Drop(frames) => tag_calls::drop_tag(
+                shape(frames),
+                &self.slots,
+                &self.words,
+                &self.records,
+                &self.cache,
+                &self.memory,
+                &[],
+                &mut self.pending,
+            ),
         }
-        Asked::Drop(frames) => tag_bridges::drop_tag_through(
-            shape(frames),
-            slots,
-            words,
-            records,
-            cache,
-            memory,
-            pending,
-        ),
+    }
+
+    // The record and a cached byte of the line that was loaded, and a byte of the place beside it.
+    fn write_end(&self, rt: &impl Print) -> io::Result<()> {
+        println!(rt; "name {}", self.records[0])?;
+        println!(rt; "word {}", self.records[1])?;
+        println!(rt; "loaded {}", self.cache[0])?;
+        println!(rt; "beside {}", self.cache[16])
     }
 }
 
-fn bit(b: bool) -> u64 {
-    if b { 1 } else { 0 }
-}
-
-fn write_field(rt: &impl Print, x: u64, end: &str) -> io::Result<()> {
-    print!(rt; "{x}{end}")
-}
-
-// A row of the table.
-fn write_row(rt: &impl Print, call: u64, t: Tagged) -> io::Result<()> {
-    write_field(rt, call, " ")?;
-    write_field(rt, t.answer.number as u64, " ")?;
-    write_field(rt, bit(t.tag.set), " ")?;
-    write_field(rt, t.tag.name, "\n")
-}
-
-// A name and a number, as a line.
-fn write_line(rt: &impl Print, name: &str, number: u64) -> io::Result<()> {
-    print!(rt; "{name}")?;
-    write_field(rt, number, "\n")
-}
-
-fn wide(x: u8) -> u64 {
-    x as u64
-}
-
-// The record and a cached byte of the line that was loaded, and a byte of the place beside it.
-fn write_end(rt: &impl Print, records: &[u64; 4], cache: &[u8; 32]) -> io::Result<()> {
-    write_line(rt, "name ", records[0])?;
-    write_line(rt, "word ", records[1])?;
-    write_line(rt, "loaded ", wide(cache[0]))?;
-    write_line(rt, "beside ", wide(cache[16]))
-}
-
-// A fresh board, with cache bytes and memory that are not zero, the calls on it, and what stands there at the end.
 fn main(rt: HostRuntime) -> io::Result<()> {
-    let slots: [u32; 1024] = [0; 1024];
-    let mut words: [u64; 4] = [0; 4];
-    let mut records: [u64; 4] = [0; 4];
-    let mut cache: [u8; 32] = [7; 32];
-    let mut memory: [u8; 16384] = [7; 16384];
-    let mut pending = Pending {
-        set: false,
-        name: 0,
-    };
+    let mut board = Board::fresh();
     println!(rt; "call answer set name")?;
     for number in 1..=CALLS {
-        let t = answer(
-            &slots,
-            &mut words,
-            &mut records,
-            &mut cache,
-            &mut memory,
-            pending,
-            call(number),
-        );
-        write_row(&rt, number, t)?;
-        pending = t.tag;
+        let a = Answer::from(board.make(call(number)));
+        let tag = board.pending;
+        println!(rt; "{number} {} {} {}", a.number, u64::from(tag.set), tag.name)?;
     }
-    write_end(&rt, &records, &cache)
+    board.write_end(&rt)
 }

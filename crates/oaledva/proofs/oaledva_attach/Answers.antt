@@ -1,12 +1,7 @@
 -- `attach`, packed.
-use Rattle.machine.specs.Boards.{no_tag}
 use Rattle.crossing.proofs.Packs.{crosses}
-use Rattle.crossing.proofs.Fitting.{attach-small}
 use borrow.Author.Rules.{rules}
 use Rattle.oaledva.proofs.oaledva_attach.Goals as goal
 
-pub packed_answer-requires : goal.packed_answer-requires
-packed_answer-requires c = let h = c.attach-x.ensures no_tag in search (rules, attach-small)
-
 pub returns : goal.returns
-returns c = λ tag. let h = c.attach-x.ensures tag in search (rules, crosses)
+returns c = λ tag. let h = c.attach.ensures tag in search (rules, crosses)

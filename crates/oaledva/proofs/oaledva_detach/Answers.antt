@@ -1,12 +1,7 @@
 -- `detach`, packed.
-use Rattle.machine.specs.Boards.{no_tag}
 use Rattle.crossing.proofs.Packs.{crosses}
-use Rattle.crossing.proofs.Fitting.{detach-small}
 use borrow.Author.Rules.{rules}
 use Rattle.oaledva.proofs.oaledva_detach.Goals as goal
 
-pub packed_answer-requires : goal.packed_answer-requires
-packed_answer-requires c = let h = c.detach-x.ensures no_tag in search (rules, detach-small)
-
 pub returns : goal.returns
-returns c = λ tag. let h = c.detach-x.ensures tag in search (rules, crosses)
+returns c = λ tag. let h = c.detach.ensures tag in search (rules, crosses)

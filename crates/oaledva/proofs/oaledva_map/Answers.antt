@@ -1,12 +1,7 @@
 -- `map`, packed.
-use Rattle.machine.specs.Boards.{no_tag}
 use Rattle.crossing.proofs.Packs.{crosses}
-use Rattle.crossing.proofs.Fitting.{map-small}
 use borrow.Author.Rules.{rules}
 use Rattle.oaledva.proofs.oaledva_map.Goals as goal
 
-pub packed_answer-requires : goal.packed_answer-requires
-packed_answer-requires c = let h = c.map-x.ensures no_tag in search (rules, map-small)
-
 pub returns : goal.returns
-returns c = λ tag. let h = c.map-x.ensures tag in search (rules, crosses)
+returns c = λ tag. let h = c.map.ensures tag in search (rules, crosses)

@@ -1,12 +1,7 @@
 -- `flush_all`, packed.
-use Rattle.machine.specs.Boards.{no_tag}
 use Rattle.crossing.proofs.Packs.{crosses}
-use Rattle.crossing.proofs.Fitting.{flush-small}
 use borrow.Author.Rules.{rules}
 use Rattle.oaledva_sets.proofs.oaledva_sets_flush_all.Goals as goal
 
-pub packed_answer-requires : goal.packed_answer-requires
-packed_answer-requires c = let h = c.flush_all-x.ensures no_tag in search (rules, flush-small)
-
 pub returns : goal.returns
-returns c = λ tag. let h = c.flush_all-x.ensures tag in search (rules, crosses)
+returns c = λ tag. let h = c.flush_all.ensures tag in search (rules, crosses)

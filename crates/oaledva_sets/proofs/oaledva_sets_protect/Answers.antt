@@ -1,12 +1,7 @@
 -- `protect`, packed.
-use Rattle.machine.specs.Boards.{no_tag}
 use Rattle.crossing.proofs.Packs.{crosses}
-use Rattle.crossing.proofs.Fitting.{protect-small}
 use borrow.Author.Rules.{rules}
 use Rattle.oaledva_sets.proofs.oaledva_sets_protect.Goals as goal
 
-pub packed_answer-requires : goal.packed_answer-requires
-packed_answer-requires c = let h = c.protect-x.ensures no_tag in search (rules, protect-small)
-
 pub returns : goal.returns
-returns c = λ tag. let h = c.protect-x.ensures tag in search (rules, crosses)
+returns c = λ tag. let h = c.protect.ensures tag in search (rules, crosses)
