@@ -37,29 +37,29 @@ unfolding is_mapped
 some-mapped (Some f) = refl
 some-mapped None = refl
 
-module _ (s : Shape) (words : List ℕ) (page frame : ℕ) (p q : Bool) (e : p ≡ ordinary_page page) (g : q ≡ is_frame s frame) where
-  pub check-ranges : (p && q) ≡ false → Err OutOfRange ≡ map_check s words page frame
+module _ (s : Shape) (words : List ℕ) (page frame : ℕ) (p : Bool) (e : p ≡ (ordinary_page page && is_frame s frame)) where
+  pub check-ranges : p ≡ false → Err OutOfRange ≡ map_check s words page frame
   unfolding map_check by_table
-  check-ranges h = rw (← e, ← g, h)
+  check-ranges h = rw (← e, h)
 
-  module _ (h : (p && q) ≡ true) where
+  module _ (h : p ≡ true) where
     pub check-frame : length words ≡ s.frames → frame < length words
     check-frame n =
-        let z : frame < s.frames = ltb-true frame s.frames (and_right (leb s.uncached frame) (ltb frame s.frames) (sym g ∙ and_right p q h)) in
+        let z : frame < s.frames = ltb-true frame s.frames (and_right (leb s.uncached frame) (ltb frame s.frames) (and_right (ordinary_page page) (is_frame s frame) (sym e ∙ h))) in
         omega arith
 
     pub check-used : (get_or words frame 0 ≡ 0 → ⊥) → Err FrameInUse ≡ map_check s words page frame
     unfolding map_check by_table
-    check-used n = rw (← e, ← g, h, ne_eqb _ _ n)
+    check-used n = rw (← e, h, ne_eqb _ _ n)
 
     module _ (z : get_or words frame 0 ≡ 0) (found : Option ℕ) (i : found ≡ mapped_to s words page) (t : Bool) (o : t ≡ is_some found) where
       pub check-mapped : t ≡ true → Err AlreadyMapped ≡ map_check s words page frame
       unfolding map_check by_table
-      check-mapped j = rw (← e, ← g, h, eq-eqb _ _ z, ← i, ← some-mapped found, ← o, j)
+      check-mapped j = rw (← e, h, eq-eqb _ _ z, ← i, ← some-mapped found, ← o, j)
 
       pub check-none : t ≡ false → Ok tt ≡ map_check s words page frame
       unfolding map_check by_table
-      check-none j = rw (← e, ← g, h, eq-eqb _ _ z, ← i, ← some-mapped found, ← o, j)
+      check-none j = rw (← e, h, eq-eqb _ _ z, ← i, ← some-mapped found, ← o, j)
 
 -- where nothing is against it, the first row does not apply
 ok-passed : (x : Bool) (rest : Result Unit Refusal) → cond (not x) (Err OutOfRange) rest ≡ Ok tt → x ≡ true

@@ -1,7 +1,8 @@
 // 01, "Calls": map.
 #![tactic(auto)]
 
-ghost use Rattle.std.specs.Prelude.{◌≡◌, length};
+ghost use Rattle.std.specs.Prelude.{◌≡◌, ◌&&◌, length};
+ghost use Rattle.address.specs.Addresses.{ordinary_page};
 ghost use Rattle.board.specs.declared.Pending.{Pending};
 ghost use Rattle.board.specs.Refusals.{call_answer};
 ghost use Rattle.machine.specs.Refusals.{is_frame};
@@ -11,11 +12,11 @@ ghost use Rattle.machine.specs.Boards.{sets_board};
 
 use board::{Refusal, Shape};
 
-// A frame from U up and below F.
-fn is_frame(s: Shape, frame: usize) -> bool
-    ensures { result ≡ is_frame s frame }
+// An ordinary page, and a frame from U up and below F.
+fn map_fits(s: Shape, page: u64, frame: usize) -> bool
+    ensures { result ≡ (ordinary_page page && is_frame s frame) }
 {
-    (s.uncached..s.frames).contains(&frame)
+    address::ordinary_page(page) && (s.uncached..s.frames).contains(&frame)
 }
 
 // Numbers 2, 10 and 11 of map.
@@ -23,7 +24,7 @@ fn map_check(s: Shape, words: &[u64], page: u64, frame: usize) -> Result<(), Ref
     requires { length words.now ≡ s.frames }
     ensures { result ≡ map_check s words.now page frame }
 {
-    if !(address::ordinary_page(page) & is_frame(s, frame)) {
+    if !map_fits(s, page, frame) {
         return Err(Refusal::OutOfRange);
     }
     if words[frame] != 0 {
