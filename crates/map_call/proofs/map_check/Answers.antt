@@ -1,5 +1,4 @@
 -- `map_check` asks the rows of map in their order.
-use native.Mathlib.Omega.{arith}
 use Rattle.map_call.proofs.Maps.{check-ranges, check-frame, check-used, check-mapped, check-none}
 use Rattle.map_call.proofs.map_check.Goals as goal
 

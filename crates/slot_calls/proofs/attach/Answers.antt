@@ -14,20 +14,24 @@ returns-in_err-fit c = λ tag. unfitted _ _ _ _ _ _ _ _ c.fit.ensures _ _ tag _ 
 
 pub returns-then-not-attachable_segment : goal.returns-then-not-attachable_segment
 returns-then-not-attachable_segment c = λ tag. elim c.if-has_slot.branch [
-  then-has_slot w ↦ attach-no-segment _ _ _ _ _ _ _ tag _ c.fit.ensures c.in_ok-fit.was _ _ _ c.has_slot.ensures _ _ _ w.if-has_slot.true w.attachable_segment.ensures
+  | then-has_slot w ↦ attach-no-segment _ _ _ _ _ _ _ tag _ c.fit.ensures c.in_ok-fit.was _ _ _ c.has_slot.ensures _ _ _ w.if-has_slot.true w.attachable_segment.ensures
       (sym w.value-is ∙ c.if-not-attachable_segment.true)
   | else-has_slot w ↦ attach-no-slot _ _ _ _ _ _ _ tag _ c.fit.ensures c.in_ok-fit.was _ _ _ c.has_slot.ensures _ _ w.if-has_slot.false
-  ]
+]
 
 pub attach_slot-requires : goal.attach_slot-requires
 attach_slot-requires c = elim c.if-has_slot.branch [
-  then-has_slot w ↦ (process-room _ _ _ _ c.has_slot.ensures w.if-has_slot.true _ _ _ _ _ _ _ c.fit.ensures c.in_ok-fit.was, slot-below c.args.s _ _ _ c.has_slot.ensures w.if-has_slot.true, segment-below _ _ w.attachable_segment.ensures (sym w.value-is ∙ c.if-not-attachable_segment.false))
+  | then-has_slot w ↦ (
+    process-room _ _ _ _ c.has_slot.ensures w.if-has_slot.true _ _ _ _ _ _ _ c.fit.ensures c.in_ok-fit.was,
+    slot-below c.args.s _ _ _ c.has_slot.ensures w.if-has_slot.true,
+    segment-below _ _ w.attachable_segment.ensures (sym w.value-is ∙ c.if-not-attachable_segment.false),
+  )
   | else-has_slot w ↦ absurd (false≢true (sym w.if-has_slot.false ∙ (sym w.value-is ∙ c.if-not-attachable_segment.false)))
-  ]
+]
 
 pub returns : goal.returns
 returns c = λ tag. elim c.if-has_slot.branch [
-  then-has_slot w ↦ attach-done _ _ _ _ _ _ _ tag _ c.fit.ensures c.in_ok-fit.was _ _ _ c.has_slot.ensures _ _ _ _ w.if-has_slot.true w.attachable_segment.ensures
+  | then-has_slot w ↦ attach-done _ _ _ _ _ _ _ tag _ c.fit.ensures c.in_ok-fit.was _ _ _ c.has_slot.ensures _ _ _ _ w.if-has_slot.true w.attachable_segment.ensures
       (sym w.value-is ∙ c.if-not-attachable_segment.false) c.attach_slot.ensures
   | else-has_slot w ↦ absurd (false≢true (sym w.if-has_slot.false ∙ (sym w.value-is ∙ c.if-not-attachable_segment.false)))
-  ]
+]
