@@ -2,27 +2,19 @@
 #![tactic(auto)]
 
 ghost use Rattle.std.specs.Prelude.{◌≡◌, ◌&&◌};
-ghost use Rattle.address.specs.Addresses.{attachable};
 ghost use Rattle.board.specs.declared.Pending.{Pending};
+ghost use Rattle.board.specs.Refusals.{call_answer};
 ghost use Rattle.machine.specs.Refusals.{is_process, is_slot};
 ghost use Rattle.machine.specs.Clauses.{Attach, Detach};
 ghost use Rattle.machine.specs.Boards.{sets_board};
 
-use board::{Answer, PROCESS_SLOTS, Shape, numbered};
-
-// A process, a slot and a segment in their ranges.
-fn attach_fits(s: Shape, process: usize, slot: usize, segment: u64) -> bool
-    ensures { result ≡ (is_process s process && (is_slot slot && attachable segment)) }
-{
-    let a = address::attachable_segment(segment);
-    (process < s.processes) & ((slot < PROCESS_SLOTS) & a)
-}
+use board::{PROCESS_SLOTS, Refusal, Shape};
 
 // A process and a slot in their ranges.
-fn detach_fits(s: Shape, process: usize, slot: usize) -> bool
+fn has_slot(s: Shape, process: usize, slot: usize) -> bool
     ensures { result ≡ (is_process s process && is_slot slot) }
 {
-    (process < s.processes) & (slot < PROCESS_SLOTS)
+    process < s.processes && slot < PROCESS_SLOTS
 }
 
 // Attaches a segment to a slot of a process.
@@ -38,26 +30,15 @@ pub fn attach(
     slot: usize,
     segment: u64,
     write: bool,
-) -> Answer
-    ensures { (tag : Pending) → Attach s (sets_board slots.old words.now records.now cache.now memory.now uses.now tag) process slot segment write result (sets_board slots.new words.now records.now cache.now memory.now uses.now tag) }
+) -> Result<(), Refusal>
+    ensures { (tag : Pending) → Attach s (sets_board slots.old words.now records.now cache.now memory.now uses.now tag) process slot segment write (call_answer result) (sets_board slots.new words.now records.now cache.now memory.now uses.now tag) }
 {
-    if board::fits(
-        s,
-        slots.len(),
-        words.len(),
-        records.len(),
-        cache.len(),
-        memory.len(),
-        uses.len(),
-    ) {
-        if attach_fits(s, process, slot, segment) {
-            slots::attach_slot(slots, process, slot, segment, write);
-            return numbered(0);
-        }
-        numbered(2)
-    } else {
-        numbered(1)
+    s.fit(slots, words, records, cache, memory, uses)?;
+    if !(has_slot(s, process, slot) && address::attachable_segment(segment)) {
+        return Err(Refusal::OutOfRange);
     }
+    slots::attach_slot(slots, process, slot, segment, write);
+    Ok(())
 }
 
 // Empties a slot of a process.
@@ -71,24 +52,13 @@ pub fn detach(
     uses: &[[[u8; 4]; 4]],
     process: usize,
     slot: usize,
-) -> Answer
-    ensures { (tag : Pending) → Detach s (sets_board slots.old words.now records.now cache.now memory.now uses.now tag) process slot result (sets_board slots.new words.now records.now cache.now memory.now uses.now tag) }
+) -> Result<(), Refusal>
+    ensures { (tag : Pending) → Detach s (sets_board slots.old words.now records.now cache.now memory.now uses.now tag) process slot (call_answer result) (sets_board slots.new words.now records.now cache.now memory.now uses.now tag) }
 {
-    if board::fits(
-        s,
-        slots.len(),
-        words.len(),
-        records.len(),
-        cache.len(),
-        memory.len(),
-        uses.len(),
-    ) {
-        if detach_fits(s, process, slot) {
-            slots::detach_slot(slots, process, slot);
-            return numbered(0);
-        }
-        numbered(2)
-    } else {
-        numbered(1)
+    s.fit(slots, words, records, cache, memory, uses)?;
+    if !has_slot(s, process, slot) {
+        return Err(Refusal::OutOfRange);
     }
+    slots::detach_slot(slots, process, slot);
+    Ok(())
 }

@@ -1,49 +1,37 @@
--- `map` goes by its number: 0 means that no row applies. Then it visits the lines, zeroes the frame and sets its word.
+-- `map` goes by its check: where nothing is against it, it visits the lines, zeroes the frame and sets its word.
 use native.Mathlib.Omega.{arith}
-use Rattle.board.proofs.Shapes.{shaped}
+use Rattle.board.proofs.Refusals.{passed}
 use Rattle.machine.specs.Calls.{map_page}
-use Rattle.machine.proofs.Fits.{fit-sized, fit_words, unfit}
+use Rattle.machine.proofs.Fits.{fitted-sized, fitted-words, fitted-memory, fitted-frames, unfitted}
 use Rattle.map_call.proofs.Maps.{passed-frame, passed-page, map-refused, map-done}
-use borrow.Author.Rules.{rules}
 use Rattle.map_call.proofs.map.Goals as goal
 
-pub map_number-number-requires : goal.map_number-number-requires
+pub returns-in_err-fit : goal.returns-in_err-fit
 unfolding map_page
-map_number-number-requires c = search (rules, fit_words)
+returns-in_err-fit c = λ tag. unfitted _ _ _ _ _ _ _ _ c.fit.ensures _ _ tag _ _ c.in_err-fit.was (passed c.from_residual.ensures.1)
+
+pub map_check-requires : goal.map_check-requires
+map_check-requires c = fitted-words _ _ _ _ _ _ _ _ c.fit.ensures c.in_ok-fit.was
+
+pub returns-in_err-map_check : goal.returns-in_err-map_check
+returns-in_err-map_check c = λ tag. map-refused _ _ _ _ _ _ _ tag _ c.fit.ensures c.in_ok-fit.was _ _ _ _ c.map_check.ensures _ _ c.in_err-map_check.was
+    (passed c.from_residual-in_err-map_check.ensures.1)
 
 pub of_map-requires : goal.of_map-requires
-unfolding map_page
-of_map-requires c = (passed-page _ _ _ _ _ c.map_number-number.ensures c.if-number-eq0.true, omega (arith, passed-frame _ _ _ _ _ c.map_number-number.ensures c.if-number-eq0.true, (shaped _ _ _ _ _ _ _ _ c.fits.ensures c.if-fits.true).frames_max))
+of_map-requires c = (passed-page _ _ _ _ _ c.map_check.ensures c.in_ok-map_check.was, omega (arith, passed-frame _ _ _ _ _ c.map_check.ensures c.in_ok-map_check.was, fitted-frames _ _ _ _ _ _ _ _ c.fit.ensures c.in_ok-fit.was))
 
 pub visit_names-requires : goal.visit_names-requires
-unfolding map_page
-visit_names-requires c = search (rules, fit-sized)
+visit_names-requires c = fitted-sized _ _ _ _ _ _ _ _ c.fit.ensures c.in_ok-fit.was
 
 pub zero_frame-requires : goal.zero_frame-requires
-unfolding map_page
-zero_frame-requires c = omega (arith, passed-frame _ _ _ _ _ c.map_number-number.ensures c.if-number-eq0.true, (shaped _ _ _ _ _ _ _ _ c.fits.ensures c.if-fits.true).memory_is)
+zero_frame-requires c = omega (arith, passed-frame _ _ _ _ _ c.map_check.ensures c.in_ok-map_check.was, fitted-memory _ _ _ _ _ _ _ _ c.fit.ensures c.in_ok-fit.was)
 
 pub frame_word-requires : goal.frame_word-requires
-unfolding map_page
-frame_word-requires c = search (rules, passed-page)
-
-pub offset_bounds-words-frame : goal.offset_bounds-words-frame
-unfolding map_page
-offset_bounds-words-frame c = omega (arith, passed-frame _ _ _ _ _ c.map_number-number.ensures c.if-number-eq0.true, (shaped _ _ _ _ _ _ _ _ c.fits.ensures c.if-fits.true).frames_max)
+frame_word-requires c = passed-page _ _ _ _ _ c.map_check.ensures c.in_ok-map_check.was
 
 pub bounds-words-frame : goal.bounds-words-frame
-unfolding map_page
-bounds-words-frame c = omega (arith, passed-frame _ _ _ _ _ c.map_number-number.ensures c.if-number-eq0.true, (shaped _ _ _ _ _ _ _ _ c.fits.ensures c.if-fits.true).words_are)
+bounds-words-frame c = omega (arith, passed-frame _ _ _ _ _ c.map_check.ensures c.in_ok-map_check.was, fitted-words _ _ _ _ _ _ _ _ c.fit.ensures c.in_ok-fit.was)
 
-pub returns-then-number-eq0 : goal.returns-then-number-eq0
-unfolding map_page
-returns-then-number-eq0 c = λ tag. map-done _ _ _ _ _ _ _ tag _ c.fits.ensures c.if-fits.true _ _ _ _ _ c.map_number-number.ensures _ _ _ _ _ c.if-number-eq0.true c.of_map.ensures
-    c.visit_names.ensures c.zero_frame.ensures c.frame_word.ensures c.numbered.ensures
-
-pub returns-else-number-eq0 : goal.returns-else-number-eq0
-unfolding map_page
-returns-else-number-eq0 c = λ tag. search (rules, map-refused)
-
-pub returns-else-fits : goal.returns-else-fits
-unfolding map_page
-returns-else-fits c = λ tag. search (rules, unfit)
+pub returns : goal.returns
+returns c = λ tag. map-done _ _ _ _ _ _ _ tag _ c.fit.ensures c.in_ok-fit.was _ _ _ _ c.map_check.ensures _ _ _ _ _ c.in_ok-map_check.was c.of_map.ensures
+    c.visit_names.ensures c.zero_frame.ensures c.frame_word.ensures
