@@ -5,7 +5,7 @@ use borrow.Author.Rules.{rules}
 use Rattle.user_lists.proofs.all_accesses.Goals as goal
 
 pub loop-i-init : goal.loop-i-init
-loop-i-init c = (search rules, refl, refl, refl, refl, refl, search (rules, list-start))
+loop-i-init c = (refl, refl, refl, refl, refl, search (rules, list-start))
 
 pub one_access-x-requires : goal.one_access-x-requires
 one_access-x-requires c = (search (rules, kept-fit), search rules)
@@ -17,9 +17,8 @@ loop-i-preserved c = let l = c.loop-i.invariant in (
   search rules,
   search rules,
   search rules,
-  search rules,
-  list-more _ _ _ _ _ _ _ _ _ _ _ _ _ _ _ _ _ _ l.6 (search rules) l.4 c.one_access-x.ensures,
+  list-more _ _ _ _ _ _ _ _ _ _ _ _ _ _ _ _ _ _ l.5 (search rules) l.3 c.one_access-x.ensures,
 )
 
 pub returns : goal.returns
-returns c = let l = c.loop-i.invariant in list-end _ _ _ _ _ _ _ _ _ _ _ _ _ l.6 (search rules) l.4
+returns c = let l = c.loop-i.invariant in list-end _ _ _ _ _ _ _ _ _ _ _ _ _ l.5 (search rules) l.3
