@@ -7,7 +7,7 @@ use mathlib.Core.List.{List, [], ◌∷◌, ◌++◌, append_assoc, append-nil, 
 use native.Mathlib.Omega.{arith}
 use native.Mathlib.Numerals.{add-one}
 use lib.Dec.{eqb}
-use lib.ListN.{length, get_or, take, set, length-map}
+use lib.ListN.{length, take, set, length-map}
 use lib.Seq.{take_all, take-suc-set}
 use borrow.Author.Tests.{eqb-true, eqb-false, eq-eqb, ne_eqb}
 use Rattle.board.specs.Shapes.{fits_shape}
@@ -22,7 +22,7 @@ use Rattle.machine.specs.Boards.{Board, sets_board, Outcome, outcome}
 use Rattle.machine.specs.Refusals.{by_table}
 use Rattle.machine.proofs.Fits.{fitted}
 use Rattle.machine.specs.Accesses.{user_access}
-use Rattle.machine.specs.Lists.{Asked, access_words, ask_at, asks_from, Answered, answered, access_on, answer_first, one_by_one, listed, list_done, user_accesses}
+use Rattle.machine.specs.Lists.{Asked, ask_at, asks_from, Answered, answered, access_on, answer_first, one_by_one, listed, list_done, user_accesses}
 use Rattle.crossing.specs.Packing.{unpacked, unpacked_all}
 use Rattle.user_lists.specs.Asks.{ask_of}
 use Rattle.user_lists.specs.declared.Ask.{Ask}

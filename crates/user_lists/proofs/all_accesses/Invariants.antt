@@ -8,7 +8,5 @@ use Rattle.user_lists.proofs.all_accesses.Given as goal
 
 abbrev pub invariant-loop-i : goal.invariant-loop-i
 invariant-loop-i l =
-    (length l.records ≡ length l.initial.records) × (length l.cache ≡ length l.initial.cache) × (length l.memory ≡ length l.initial.memory)
-    × (length l.answers ≡ length l.initial.answers) × (length l.uses ≡ length l.initial.uses)
-    × (so_far l.s l.slots l.words l.tag l.accesses (length l.initial.answers) l.answers l.i l.records l.cache l.memory l.uses
-    ≡ one_by_one l.s (sets_board l.slots l.words l.initial.records l.initial.cache l.initial.memory l.initial.uses l.tag) (asks_from l.accesses 0 (length l.initial.answers)))
+    so_far l.s l.slots l.words l.tag l.accesses (length l.initial.answers) l.answers l.i l.records l.cache l.memory l.uses
+    ≡ one_by_one l.s (sets_board l.slots l.words l.initial.records l.initial.cache l.initial.memory l.initial.uses l.tag) (asks_from l.accesses 0 (length l.initial.answers))

@@ -5,9 +5,10 @@ use Rattle.user_lists.proofs.Lists.{list-unfit, list-unlike, list-taken, list-is
 use Rattle.user_lists.proofs.user_accesses.Goals as goal
 
 pub all_accesses-requires : goal.all_accesses-requires
-all_accesses-requires c =
-    (user-fit _ _ _ _ _ _ _ _ c.fit.ensures c.in_ok-fit.was,
-    list-taken _ _ _ _ _ _ _ c.args.tag _ _ _ c.fit.ensures c.in_ok-fit.was _ c.lists_agree.ensures c.if-not-lists_agree.false)
+all_accesses-requires c = (
+  user-fit _ _ _ _ _ _ _ _ c.fit.ensures c.in_ok-fit.was,
+  list-taken _ _ _ _ _ _ _ c.args.tag _ _ _ c.fit.ensures c.in_ok-fit.was _ c.lists_agree.ensures c.if-not-lists_agree.false,
+)
 
 pub returns-in_err-fit : goal.returns-in_err-fit
 returns-in_err-fit c = list-unfit _ _ _ _ _ _ _ _ _ _ _ c.fit.ensures _ _ c.in_err-fit.was (passed c.from_residual.ensures.1)
