@@ -25,7 +25,7 @@ use Rattle.machine.proofs.Alignments.{Aligned, aligned-inside}
 use Rattle.machine.specs.Refusals.{by_table, is_process, too_large, aligned_to}
 use Rattle.machine.specs.Accesses.{slot_word_at, user_global}
 use Rattle.machine.proofs.Tables.{table-passed, table-end}
-use Rattle.user_access.specs.Checks.{refusal_by, slot_check, user_check}
+use Rattle.user_access.specs.Checks.{refused_by, slot_check, user_check}
 
 -- a segment that may be attached is a segment
 pub attachable-below : (segment : ℕ) (t : Bool) → t ≡ attachable segment → t ≡ true → segment < 2 ^ 22
@@ -47,13 +47,13 @@ module _ (word : ℕ) (a : Access) (e : Effective) (t : Bool) (f : t ≡ attacha
 
 -- refused by 2, or as it was
 module _ (why : Refusal) (a : Access) (large : Bool) (v : large ≡ too_large a) where
-  pub refusal-value : large ≡ true → OutOfRange ≡ refusal_by why a
-  unfolding refusal_by
-  refusal-value h = rw (← v, h)
+  pub refused-value : large ≡ true → OutOfRange ≡ refused_by why a
+  unfolding refused_by
+  refused-value h = rw (← v, h)
 
-  pub refusal-other : large ≡ false → why ≡ refusal_by why a
-  unfolding refusal_by
-  refusal-other h = rw (← v, h)
+  pub refused-other : large ≡ false → why ≡ refused_by why a
+  unfolding refused_by
+  refused-other h = rw (← v, h)
 
 -- a process that is not refused, and no tag pending
 pub process-below : (processes process : ℕ) (set : Bool) → (leb processes process || set) ≡ false → process < processes
@@ -79,9 +79,9 @@ module _ (s : Shape) (slots : List ℕ) (tag : Pending) (process : ℕ) (a : Acc
   unfolding user_check by_table
   check-process h = rw (le-ltb _ _ h)
 
-  pub check-tag : (why : Refusal) → (leb s.processes process || tag.set) ≡ true → process < s.processes → why ≡ refusal_by TagState a
+  pub check-tag : (why : Refusal) → (leb s.processes process || tag.set) ≡ true → process < s.processes → why ≡ refused_by TagState a
       → Err why ≡ user_check s slots tag process a e
-  unfolding user_check refusal_by by_table
+  unfolding user_check refused_by by_table
   check-tag why h p k =
       let t : tag.set ≡ true = rw (lt-leb _ _ p) at h in
       rw (k, lt-ltb _ _ p, t) (one-refusal OutOfRange TagState (too_large a))
@@ -94,8 +94,8 @@ module _ (s : Shape) (slots : List ℕ) (tag : Pending) (process : ℕ) (a : Acc
     t = (or-false (leb s.processes process) tag.set o).1
 
     module _ (al : Bool) (f : al ≡ aligned_to a.width e.0) where
-      pub check-aligned : (why : Refusal) → al ≡ false → why ≡ refusal_by Misaligned a → Err why ≡ user_check s slots tag process a e
-      unfolding user_check refusal_by by_table
+      pub check-aligned : (why : Refusal) → al ≡ false → why ≡ refused_by Misaligned a → Err why ≡ user_check s slots tag process a e
+      unfolding user_check refused_by by_table
       check-aligned why h k = rw (k, lt-ltb _ _ p, t, ← f, h) (one-refusal OutOfRange Misaligned (too_large a))
 
       pub check-value : (large : Bool) → large ≡ too_large a → large ≡ true → Err OutOfRange ≡ user_check s slots tag process a e

@@ -17,8 +17,8 @@ unfoldable pub slot_check : ℕ → Access → Effective → Result Global Refus
 slot_check word a e = checked (slot_rows word a) (global_of (slot_segment word) e)
 
 -- why an access is refused to which `why` applies: by 2, which is lower, if the value is too large
-unfoldable pub refusal_by : Refusal → Access → Refusal
-refusal_by why a = cond (too_large a) OutOfRange why
+unfoldable pub refused_by : Refusal → Access → Refusal
+refused_by why a = cond (too_large a) OutOfRange why
 
 -- numbers 2 to 7 of a user access, or its global address
 unfoldable pub user_check : Shape → List ℕ → Pending → ℕ → Access → Effective → Result Global Refusal

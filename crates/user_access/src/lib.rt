@@ -6,7 +6,7 @@ ghost use Rattle.address.specs.Layout.{process_slots};
 ghost use Rattle.board.specs.Shapes.{max_processes, fits_shape};
 ghost use Rattle.board.specs.Refusals.{access_answer};
 ghost use Rattle.machine.specs.Clauses.{UserAccess};
-ghost use Rattle.user_access.specs.Checks.{refusal_by, slot_check, user_check};
+ghost use Rattle.user_access.specs.Checks.{refused_by, slot_check, user_check};
 ghost use Rattle.machine.specs.Boards.{sets_board};
 
 use address::{Effective, Global};
@@ -28,8 +28,8 @@ fn slot_check(word: u32, a: Access, e: Effective) -> Result<Global, Refusal>
 }
 
 // Why an access is refused to which `why` applies: by 2, which is lower, if the value is too large.
-fn refusal(why: Refusal, a: Access) -> Refusal
-    ensures { result ≡ refusal_by why a }
+fn refused_by(why: Refusal, a: Access) -> Refusal
+    ensures { result ≡ refused_by why a }
 {
     if line_access::too_large(a) {
         return Refusal::OutOfRange;
@@ -54,10 +54,10 @@ fn user_check(
         if process >= s.processes {
             return Err(Refusal::OutOfRange);
         }
-        return Err(refusal(Refusal::TagState, a));
+        return Err(refused_by(Refusal::TagState, a));
     }
     if !line_access::aligned(a.width, u64::from(e.0)) {
-        return Err(refusal(Refusal::Misaligned, a));
+        return Err(refused_by(Refusal::Misaligned, a));
     }
     if line_access::overflows(a) {
         return Err(Refusal::OutOfRange);
