@@ -1,5 +1,6 @@
 -- Whether a value fits, the alignment of an access, and an access to a line, return by return.
-use Rattle.std.specs.Prelude.{Option, Some, None}
+use Rattle.std.specs.Prelude.{Option, Some, None, Result, Ok, Err}
+use Rattle.std.specs.Option.{ok_or}
 use Prim.Native.Nat.{ℕ, zero, suc, ◌+◌, ◌*◌, ◌/◌, ◌%◌, ◌^◌, ◌<◌, ◌≤◌}
 use mathlib.Core.Path.{◌≡◌, ◌∙◌, refl, sym, ap}
 use mathlib.Core.Bool.{Bool, true, false, not, ◌&&◌, ◌||◌}
@@ -11,7 +12,11 @@ use Rattle.address.specs.Addresses.{name_of}
 use Rattle.address.specs.declared.Global.{Global}
 use Rattle.address.specs.declared.Physical.{Physical}
 use Rattle.board.specs.Answers.{answer, mark_uncached, mark_of}
+use Rattle.board.specs.Refusals.{access_answer}
+use Rattle.board.specs.declared.Accessed.{Accessed}
 use Rattle.board.specs.declared.Answer.{Answer}
+use Rattle.board.specs.declared.Refusal.{Refusal}
+use Rattle.board.specs.declared.Refusal.TheVariants.{Unmapped, ReadOnlyPage}
 use Rattle.board.specs.declared.Shape.{Shape}
 use Rattle.board.specs.Lists.{bit}
 use Rattle.board.proofs.Tables.{every_below, every-below}
@@ -24,7 +29,7 @@ use Rattle.stores.specs.declared.Access.{Access}
 use Rattle.reach.specs.declared.Way.{Way}
 use Rattle.reach.specs.declared.Way.TheVariants.{Held, InMemory}
 use Rattle.lines.specs.Victims.{Uses, victim_of, used_in}
-use Rattle.reach.proofs.Reach.{way-held}
+use Rattle.reach.proofs.Reach.{way-held, way-inside}
 use Rattle.machine.specs.Refusals.{row, by_table, is_width, too_large, aligned_to}
 use Rattle.machine.specs.Accesses.{reached, stopped, reached_by, performed_on, accessed_by, uses_by, Touched, touched, victim_for, accessed, memory_access}
 use Rattle.line_access.specs.LineAccess.{refilled, line_access}
@@ -137,18 +142,6 @@ line_by s to name offset user a b uses w =
     by_table (λ n. touched (stopped b n) uses) (row 8 (unreached w) ∷ row 9 (user && (a.store && not (may_write w))) ∷ [])
     (touched (accessed_by s to name offset a b w) (uses_by s to uses w))
 
--- the record of a held line is one of the records
-module _ (s : Shape) (words r c m : List ℕ) (name i : ℕ) (write : Bool) (w : Option Way) (e : w ≡ way_of s words r name) (k : w ≡ Some (Held i write))
-    (z : Sized s r c m) where
-  pub held-inside : i < s.lines
-  held-inside = way-held s words r name i write w e k z.lined
-
-  pub held-record : 2 * i + 2 ≤ length r
-  held-record = omega (arith, held-inside)
-
-  pub held_bytes : 16 * i + 16 ≤ length c
-  held_bytes = omega (arith, held-inside)
-
 -- an access to a line that isn't held, in the record that it takes
 pub refilled_by : (s : Shape) (r c m : List ℕ) (u : Uses) (name line : ℕ) (write : Bool) (offset : ℕ) (a : Access) (x : Answer) (to : ℕ) (back : Bool)
     (r₁ c₁ m₁ r₂ c₂ : List ℕ) (u₁ : Uses) → to ≡ victim_of s u r name → u₁ ≡ used_in s u to
@@ -158,7 +151,34 @@ pub refilled_by : (s : Shape) (r c m : List ℕ) (u : Uses) (name line : ℕ) (w
 unfolding refilled accessed_by uses_by
 refilled_by s r c m u name line write offset a x to back r₁ c₁ m₁ r₂ c₂ u₁ v e f d = rw (e, d, f.0, f.1, v)
 
-module _ (s : Shape) (words r c m : List ℕ) (u : Uses) (g : Global) (user : Bool) (a : Access) (w : Option Way) (e : w ≡ way_of s words r (name_of g)) where
+-- where no way was found, and where one was
+no-way : (w : Option Way) (why : Refusal) → ok_or w Unmapped ≡ Err why → (w ≡ None) × (why ≡ Unmapped)
+no-way (Some way) why e = absurd (let z : ◌≡◌ {A = ℕ} 0 1 = cc in omega arith)
+no-way None why e = (refl, cc)
+
+found-way : (w : Option Way) (way : Way) → ok_or w Unmapped ≡ Ok way → w ≡ Some way
+found-way (Some x) way e = cc
+found-way None way e = absurd (let z : ◌≡◌ {A = ℕ} 0 1 = cc in omega arith)
+
+module _ (s : Shape) (words r : List ℕ) (name : ℕ) (w : Option Way) (e : w ≡ way_of s words r name) (q : Result Way Refusal) (o : q ≡ ok_or w Unmapped)
+    (way : Way) (h : q ≡ Ok way) where
+  module _ (i : ℕ) (write : Bool) (k : way ≡ Held i write) (c m : List ℕ) (z : Sized s r c m) where
+    -- the record of a held line is one of the records
+    pub held-inside : i < s.lines
+    held-inside = way-held s words r name i write w e (found-way w way (sym o ∙ h) ∙ ap Some k) z.lined
+
+    pub held-record : 2 * i + 2 ≤ length r
+    held-record = omega (arith, held-inside)
+
+    pub held_bytes : 16 * i + 16 ≤ length c
+    held_bytes = omega (arith, held-inside)
+
+  -- the line of another is one of memory
+  pub memory-inside : (line : ℕ) (write : Bool) → way ≡ InMemory line write → length words ≡ s.frames → line < 256 * s.frames
+  memory-inside line write k n = way-inside s words r name line write w e (found-way w way (sym o ∙ h) ∙ ap Some k) n
+
+module _ (s : Shape) (words r c m : List ℕ) (u : Uses) (g : Global) (user : Bool) (a : Access) (w : Option Way) (e : w ≡ way_of s words r (name_of g))
+    (q : Result Way Refusal) (o : q ≡ ok_or w Unmapped) where
   line_on : line_by s (victim_for s u r g) (name_of g) (g.0 % 16) user a (store r c m) u w ≡ line_access s words g user a (store r c m) u
   unfolding line_by line_access accessed
   line_on = rw e
@@ -166,30 +186,47 @@ module _ (s : Shape) (words r c m : List ℕ) (u : Uses) (g : Global) (user : Bo
   by : Option Way → Touched
   by = line_by s (victim_for s u r g) (name_of g) (g.0 % 16) user a (store r c m) u
 
-  pub line-missing : (x : Answer) → w ≡ None → x ≡ answer 8 0 0 → touched (reached x r c m) u ≡ line_access s words g user a (store r c m) u
+  pub line-unmapped : (x : Result Accessed Refusal) (why : Refusal) → q ≡ Err why → x ≡ Err why
+      → touched (reached (access_answer x) r c m) u ≡ line_access s words g user a (store r c m) u
   unfolding line_by by by_table unreached
-  line-missing x k f = rw f (ap by (sym k) ∙ line_on)
+  line-unmapped x why h k =
+      let z = no-way w why (sym o ∙ h) in
+      rw (k, z.1) (ap by (sym z.0) ∙ line_on)
 
-  module _ (i : ℕ) (write : Bool) (k : w ≡ Some (Held i write)) where
-    pub held_reads : (x : Answer) → (user && (a.store && not write)) ≡ true → x ≡ answer 9 0 0
-        → touched (reached x r c m) u ≡ line_access s words g user a (store r c m) u
-    unfolding line_by by by_table unreached may_write
-    held_reads x t f = rw f (simp t at (ap by (sym k)) ∙ line_on)
+  module _ (way : Way) (h : q ≡ Ok way) where
+    way_is : w ≡ Some way
+    way_is = found-way w way (sym o ∙ h)
 
-    pub held-performed : (x : Answer) (r₁ c₁ : List ℕ) (u₁ : Uses) → (user && (a.store && not write)) ≡ false → u₁ ≡ used_in s u i
-        → reached x r₁ c₁ m ≡ performed_on i (g.0 % 16) a (mark_of true false) (store r c m)
-        → touched (reached x r₁ c₁ m) u₁ ≡ line_access s words g user a (store r c m) u
-    unfolding line_by by by_table unreached may_write accessed_by uses_by
-    held-performed x r₁ c₁ u₁ t q d = rw (d, q) (simp t at (ap by (sym k)) ∙ line_on)
+    way_on : (v : Way) → way ≡ v → by (Some v) ≡ line_access s words g user a (store r c m) u
+    unfolding by
+    way_on v k = ap by (sym (way_is ∙ ap Some k)) ∙ line_on
 
-  module _ (line : ℕ) (write : Bool) (k : w ≡ Some (InMemory line write)) where
-    pub memory-reads : (x : Answer) → (user && (a.store && not write)) ≡ true → x ≡ answer 9 0 0
-        → touched (reached x r c m) u ≡ line_access s words g user a (store r c m) u
-    unfolding line_by by by_table unreached may_write
-    memory-reads x t f = rw f (simp t at (ap by (sym k)) ∙ line_on)
+    module _ (may : Bool) (f : may ≡ may_write (Some way)) where
+      may_be : (v : Way) (write : Bool) → may_write (Some v) ≡ write → way ≡ v → may ≡ write
+      may_be v write e k = f ∙ (ap (λ (v : Way). may_write (Some v)) k ∙ e)
 
-    pub memory-refilled : (x : Answer) (name : ℕ) (r₂ c₂ m₂ : List ℕ) (u₂ : Uses) → (user && (a.store && not write)) ≡ false → name ≡ name_of g
-        → touched (reached x r₂ c₂ m₂) u₂ ≡ refilled s name line write (g.0 % 16) a (store r c m) u
-        → touched (reached x r₂ c₂ m₂) u₂ ≡ line_access s words g user a (store r c m) u
-    unfolding line_by by by_table unreached may_write refilled
-    memory-refilled x name r₂ c₂ m₂ u₂ t n d = d ∙ (rw n (simp t at (ap by (sym k))) ∙ line_on)
+      pub line-reads : (user && (a.store && not may)) ≡ true
+          → touched (reached (access_answer (Err ReadOnlyPage)) r c m) u ≡ line_access s words g user a (store r c m) u
+      unfolding line_by by by_table unreached may_write
+      line-reads t = go way refl
+        where
+          go : (v : Way) → way ≡ v → touched (reached (access_answer (Err ReadOnlyPage)) r c m) u ≡ line_access s words g user a (store r c m) u
+          go (Held i write) k = simp (← may_be (Held i write) write refl k, t) at (way_on (Held i write) k)
+          go (InMemory line write) k = simp (← may_be (InMemory line write) write refl k, t) at (way_on (InMemory line write) k)
+
+      module _ (t : (user && (a.store && not may)) ≡ false) where
+        module _ (i : ℕ) (write : Bool) (k : way ≡ Held i write) where
+          pub held-performed : (x : Answer) (r₁ c₁ : List ℕ) (u₁ : Uses) → u₁ ≡ used_in s u i
+              → reached x r₁ c₁ m ≡ performed_on i (g.0 % 16) a (mark_of true false) (store r c m)
+              → touched (reached x r₁ c₁ m) u₁ ≡ line_access s words g user a (store r c m) u
+          unfolding line_by by by_table unreached may_write accessed_by uses_by
+          held-performed x r₁ c₁ u₁ q d = rw (d, q) (simp (← may_be (Held i write) write refl k, t) at (way_on (Held i write) k))
+
+        module _ (line : ℕ) (write : Bool) (k : way ≡ InMemory line write) where
+          pub memory-refilled : (x : Answer) (name : ℕ) (r₂ c₂ m₂ : List ℕ) (u₂ : Uses) → name ≡ name_of g
+              → touched (reached x r₂ c₂ m₂) u₂ ≡ refilled s name line write (g.0 % 16) a (store r c m) u
+              → touched (reached x r₂ c₂ m₂) u₂ ≡ line_access s words g user a (store r c m) u
+          unfolding line_by by by_table unreached may_write refilled
+          memory-refilled x name r₂ c₂ m₂ u₂ n d =
+              let f : (user && (a.store && not write)) ≡ false = rw (may_be (InMemory line write) write refl k) at t in
+              d ∙ rw n (simp f at (way_on (InMemory line write) k))

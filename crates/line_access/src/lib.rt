@@ -2,19 +2,21 @@
 // past the cache.
 #![tactic(auto)]
 
-ghost use Rattle.std.specs.Prelude.{◌≡◌, ◌+◌, ◌*◌, ◌/◌, ◌≤◌, ◌<◌, length};
+ghost use Rattle.std.specs.Prelude.{◌≡◌, ◌+◌, ◌*◌, ◌/◌, ◌≤◌, ◌<◌, length, Some, Ok};
 ghost use Rattle.address.specs.Layout.{line_bytes, page_lines};
 ghost use Rattle.board.specs.Answers.{mark_of};
+ghost use Rattle.board.specs.Refusals.{access_answer};
 ghost use Rattle.board.specs.Shapes.{matrices_of};
 ghost use Rattle.line_bytes.specs.Premises.{Width, InWord};
 ghost use Rattle.stores.specs.Premises.{Sized};
+ghost use Rattle.reach.specs.Reach.{may_write};
 ghost use Rattle.machine.specs.Refusals.{too_large, aligned_to};
 ghost use Rattle.machine.specs.Accesses.{ended, touched, performed_on, memory_access};
 ghost use Rattle.line_access.specs.LineAccess.{refilled, line_access};
 ghost use Rattle.stores.specs.Stores.{store};
 
-use address::{Effective, Global, LINE_BYTES, Physical};
-use board::{Answer, Shape, UNCACHED, accessed, mark_of, numbered};
+use address::{Global, LINE_BYTES, Physical};
+use board::{Accessed, Mark, Refusal, Shape};
 use reach::Way;
 use stores::Access;
 
@@ -42,8 +44,8 @@ pub fn too_large(a: Access) -> bool
 // or 2 are of 2, those that leave 0 are of 4. One shift costs the same for every width, and needs no branch between them.
 const MULTIPLES: u32 = 67056;
 
-// The width is 1, 2 or 4, and the number a multiple of it.
-fn aligned(width: u32, at: u64) -> bool
+// The width is 1, 2 or 4, and the number a multiple of it: that of an effective address, or of a global one.
+pub fn aligned(width: u32, at: u64) -> bool
     ensures { result ≡ aligned_to width at }
 {
     if width < 8 {
@@ -51,19 +53,6 @@ fn aligned(width: u32, at: u64) -> bool
         return (MULTIPLES >> bit) % 2 == 1;
     }
     false
-}
-
-// The same of an effective address, and of a global one.
-pub fn effective_aligned(width: u32, e: Effective) -> bool
-    ensures { result ≡ aligned_to width e.0 }
-{
-    aligned(width, e.0 as u64)
-}
-
-pub fn global_aligned(width: u32, g: Global) -> bool
-    ensures { result ≡ aligned_to width g.0 }
-{
-    aligned(width, g.0)
 }
 
 // A load or a store on the line of record `i`, which holds it now. Its mark: was the line held when the access came, and was a
@@ -77,12 +66,15 @@ fn perform_on(
     a: Access,
     held: bool,
     back: bool,
-) -> Answer
+) -> Accessed
     requires { (2 * i + 2 ≤ length records.old) × (line_bytes * i + line_bytes ≤ length cache.old) × (offset < line_bytes) × InWord offset a.width × Width a.width }
-    ensures { ended result (store records.new cache.new memory.now) ≡ performed_on i offset a (mark_of held back) (store records.old cache.old memory.now) }
+    ensures { ended (access_answer (Ok result)) (store records.new cache.new memory.now) ≡ performed_on i offset a (mark_of held back) (store records.old cache.old memory.now) }
 {
     let value = stores::perform(records, cache, i, offset, a);
-    accessed(value, mark_of(held, back))
+    Accessed {
+        value,
+        mark: Mark::by_cache(held, back),
+    }
 }
 
 // An access to a line that isn't held: it is filled in the victim of its set, and used there.
@@ -97,14 +89,24 @@ fn refill_access(
     write: bool,
     offset: usize,
     a: Access,
-) -> Answer
+) -> Accessed
     requires { Sized s records.old cache.old memory.old × (length uses.old ≡ matrices_of s) × (line < page_lines * s.frames) × (offset < line_bytes) × InWord offset a.width × Width a.width }
-    ensures { touched (ended result (store records.new cache.new memory.new)) uses.new ≡ refilled s name line write offset a (store records.old cache.old memory.old) uses.old }
+    ensures { touched (ended (access_answer (Ok result)) (store records.new cache.new memory.new)) uses.new ≡ refilled s name line write offset a (store records.old cache.old memory.old) uses.old }
 {
     let to = lines::victim_of(s, records, uses, name);
     lines::note_use(s, uses, to);
     let back = stores::insert(s, records, cache, memory, to, name, line, write);
     perform_on(records, cache, memory, to, offset, a, false, back)
+}
+
+// Whether users may write the line that is reached in this way.
+#[tactic(auto, unfolding(reach::specs::Reach::may_write))]
+fn may_write(way: Way) -> bool
+    ensures { result ≡ may_write (Some way) }
+{
+    match way {
+        Way::Held(_, write) | Way::InMemory(_, write) => write,
+    }
 }
 
 // An access to a line, with numbers 8 and 9.
@@ -118,29 +120,26 @@ pub fn line_access(
     g: Global,
     user: bool,
     a: Access,
-) -> Answer
+) -> Result<Accessed, Refusal>
     requires { Sized s records.old cache.old memory.old × (length uses.old ≡ matrices_of s) × (length words.now ≡ s.frames) × Width a.width × InWord g.0 a.width }
-    ensures { touched (ended result (store records.new cache.new memory.new)) uses.new ≡ line_access s words.now g user a (store records.old cache.old memory.old) uses.old }
+    ensures { touched (ended (access_answer result) (store records.new cache.new memory.new)) uses.new ≡ line_access s words.now g user a (store records.old cache.old memory.old) uses.old }
 {
-    match reach::way_to(s, words, records, g) {
-        Way::Missing => numbered(8),
-        Way::Held(i, write) => {
-            if user & (a.store & !write) {
-                return numbered(9);
-            }
+    let way = reach::way_to(s, words, records, g).ok_or(Refusal::Unmapped)?;
+    if user & (a.store & !may_write(way)) {
+        return Err(Refusal::ReadOnlyPage);
+    }
+    match way {
+        Way::Held(i, _) => {
             lines::note_use(s, uses, i);
             let offset = (g.0 % LINE_BYTES) as usize;
-            perform_on(records, cache, memory, i, offset, a, true, false)
+            Ok(perform_on(records, cache, memory, i, offset, a, true, false))
         }
         Way::InMemory(line, write) => {
-            if user & (a.store & !write) {
-                return numbered(9);
-            }
             let name = g.name();
             let offset = (g.0 % LINE_BYTES) as usize;
-            refill_access(
+            Ok(refill_access(
                 s, records, cache, memory, uses, name, line, write, offset, a,
-            )
+            ))
         }
     }
 }
@@ -152,16 +151,21 @@ pub fn memory_access(
     memory: &mut [u8],
     p: Physical,
     a: Access,
-) -> Answer
+) -> Accessed
     requires { (p.0 / 4 * 4 + 4 ≤ length memory.old) × InWord p.0 a.width × Width a.width }
-    ensures { ended result (store records.now cache.now memory.new) ≡ memory_access p a (store records.now cache.now memory.old) }
+    ensures { ended (access_answer (Ok result)) (store records.now cache.now memory.new) ≡ memory_access p a (store records.now cache.now memory.old) }
 {
     let at = p.0 as usize;
     let width = a.width;
     if a.store {
         line_bytes::store_bytes(memory, at, width, a.value);
-        return accessed(0, UNCACHED);
+        return Accessed {
+            value: 0,
+            mark: Mark::Uncached,
+        };
     }
-    let value = line_bytes::load_bytes(memory, at, width);
-    accessed(value, UNCACHED)
+    Accessed {
+        value: line_bytes::load_bytes(memory, at, width),
+        mark: Mark::Uncached,
+    }
 }

@@ -4,43 +4,37 @@
 ghost use Rattle.std.specs.Prelude.{◌≡◌, true, ◌*◌, ◌≤◌, length};
 ghost use Rattle.address.specs.Layout.{process_slots};
 ghost use Rattle.board.specs.Shapes.{max_processes, fits_shape};
+ghost use Rattle.board.specs.Refusals.{access_answer};
 ghost use Rattle.machine.specs.Clauses.{UserAccess};
 ghost use Rattle.user_access.specs.Checks.{refused_by, slot_check, user_check};
 ghost use Rattle.machine.specs.Boards.{sets_board};
 
 use address::{Effective, Global};
-use board::{Answer, PROCESS_SLOTS, Pending, Shape, numbered};
+use board::{Accessed, PROCESS_SLOTS, Pending, Refusal, Shape};
 use stores::Access;
 
-// What is decided of a user access before a line is touched: a refusal's number, or the global address.
-#[derive(Clone, Copy)]
-enum Check {
-    Refuse(u32),
-    Go(Global),
-}
-
 // Numbers 6 and 7 by the slot's word, or the global address.
-fn slot_check(word: u32, a: Access, e: Effective) -> Check
+fn slot_check(word: u32, a: Access, e: Effective) -> Result<Global, Refusal>
     ensures { result ≡ slot_check word a e }
 {
-    let segment = (word / 2) as u64;
-    if address::attachable_segment(segment) {
-        if a.store & (word % 2 != 1) {
-            return Check::Refuse(7);
-        }
-        return Check::Go(e.in_segment(segment));
+    let segment = u64::from(word / 2);
+    if !address::attachable_segment(segment) {
+        return Err(Refusal::EmptySlot);
     }
-    Check::Refuse(6)
+    if a.store & (word % 2 != 1) {
+        return Err(Refusal::ReadOnlySegment);
+    }
+    Ok(e.in_segment(segment))
 }
 
-// Refuses by `n`, or by 2, which is lower, if the value is too large.
-fn refuse(n: u32, a: Access) -> Check
-    ensures { result ≡ refused_by n a }
+// Why an access is refused to which `why` applies: by 2, which is lower, if the value is too large.
+fn refused_by(why: Refusal, a: Access) -> Refusal
+    ensures { result ≡ refused_by why a }
 {
     if line_access::too_large(a) {
-        return Check::Refuse(2);
+        return Refusal::OutOfRange;
     }
-    Check::Refuse(n)
+    why
 }
 
 // Numbers 2 to 7 of a user access, or the global address. Of an access that may be done, width, alignment and value are asked
@@ -52,26 +46,26 @@ fn user_check(
     process: usize,
     a: Access,
     e: Effective,
-) -> Check
+) -> Result<Global, Refusal>
     requires { (length slots.now ≡ s.processes * process_slots) × (s.processes ≤ max_processes) }
     ensures { result ≡ user_check s slots.now tag process a e }
 {
     if (process >= s.processes) | tag.set {
         if process >= s.processes {
-            return Check::Refuse(2);
+            return Err(Refusal::OutOfRange);
         }
-        return refuse(3, a);
+        return Err(refused_by(Refusal::TagState, a));
     }
-    if line_access::effective_aligned(a.width, e) {
-        if line_access::overflows(a) {
-            return Check::Refuse(2);
-        }
-        if e.is_kernels() {
-            return Check::Refuse(5);
-        }
-        return slot_check(slots[process * PROCESS_SLOTS + e.slot()], a, e);
+    if !line_access::aligned(a.width, u64::from(e.0)) {
+        return Err(refused_by(Refusal::Misaligned, a));
     }
-    refuse(4, a)
+    if line_access::overflows(a) {
+        return Err(Refusal::OutOfRange);
+    }
+    if e.is_kernels() {
+        return Err(Refusal::KernelAddress);
+    }
+    slot_check(slots[process * PROCESS_SLOTS + e.slot()], a, e)
 }
 
 // A user's load or store on a board that fits.
@@ -87,16 +81,12 @@ pub fn fitting_access(
     process: usize,
     a: Access,
     e: Effective,
-) -> Answer
+) -> Result<Accessed, Refusal>
     requires { fits_shape s (length slots.now) (length words.now) (length records.old) (length cache.old) (length memory.old) (length uses.old) ≡ true }
-    ensures { UserAccess s (sets_board slots.now words.now records.old cache.old memory.old uses.old tag) process a e result (sets_board slots.now words.now records.new cache.new memory.new uses.new tag) }
+    ensures { UserAccess s (sets_board slots.now words.now records.old cache.old memory.old uses.old tag) process a e (access_answer result) (sets_board slots.now words.now records.new cache.new memory.new uses.new tag) }
 {
-    match user_check(s, slots, tag, process, a, e) {
-        Check::Refuse(n) => numbered(n),
-        Check::Go(g) => line_access::line_access(
-            s, words, records, cache, memory, uses, g, true, a,
-        ),
-    }
+    let g = user_check(s, slots, tag, process, a, e)?;
+    line_access::line_access(s, words, records, cache, memory, uses, g, true, a)
 }
 
 // A user's load or store.
@@ -112,22 +102,11 @@ pub fn user_access(
     process: usize,
     a: Access,
     e: Effective,
-) -> Answer
-    ensures { UserAccess s (sets_board slots.now words.now records.old cache.old memory.old uses.old tag) process a e result (sets_board slots.now words.now records.new cache.new memory.new uses.new tag) }
+) -> Result<Accessed, Refusal>
+    ensures { UserAccess s (sets_board slots.now words.now records.old cache.old memory.old uses.old tag) process a e (access_answer result) (sets_board slots.now words.now records.new cache.new memory.new uses.new tag) }
 {
-    if board::fits(
-        s,
-        slots.len(),
-        words.len(),
-        records.len(),
-        cache.len(),
-        memory.len(),
-        uses.len(),
-    ) {
-        fitting_access(
-            s, slots, words, records, cache, memory, uses, tag, process, a, e,
-        )
-    } else {
-        numbered(1)
-    }
+    s.fit(slots, words, records, cache, memory, uses)?;
+    fitting_access(
+        s, slots, words, records, cache, memory, uses, tag, process, a, e,
+    )
 }

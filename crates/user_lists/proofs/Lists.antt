@@ -1,4 +1,5 @@
 -- A list done one by one, turn by turn; and when its two lengths agree.
+use Rattle.std.specs.Prelude.{Result, Ok, Err}
 use Prim.Native.Nat.{ℕ, suc, ◌+◌, ◌*◌, ◌-◌, ◌/◌, ◌%◌, ◌<◌, ◌≤◌}
 use mathlib.Core.Path.{◌≡◌, ◌∙◌, refl, sym, ap}
 use mathlib.Core.Bool.{Bool, true, false, ◌&&◌}
@@ -6,19 +7,22 @@ use mathlib.Core.List.{List, [], ◌∷◌, ◌++◌, append_assoc, append-nil, 
 use native.Mathlib.Omega.{arith}
 use native.Mathlib.Numerals.{add-one}
 use lib.Dec.{eqb}
-use lib.ListN.{length, get_or, take, set, length-map}
+use lib.ListN.{length, take, set, length-map}
 use lib.Seq.{take_all, take-suc-set}
 use borrow.Author.Tests.{eqb-true, eqb-false, eq-eqb, ne_eqb}
-use Rattle.board.specs.Answers.{answer}
 use Rattle.board.specs.Shapes.{fits_shape}
+use Rattle.board.specs.Refusals.{fit, call_answer}
+use Rattle.board.specs.declared.Refusal.{Refusal}
+use Rattle.board.specs.declared.Refusal.TheVariants.{Unfit}
 use Rattle.board.specs.declared.Answer.{Answer}
 use Rattle.board.specs.declared.Pending.{Pending}
 use Rattle.board.specs.declared.Shape.{Shape}
 use Rattle.lines.specs.Victims.{Uses}
 use Rattle.machine.specs.Boards.{Board, sets_board, Outcome, outcome}
 use Rattle.machine.specs.Refusals.{by_table}
+use Rattle.machine.proofs.Fits.{fitted}
 use Rattle.machine.specs.Accesses.{user_access}
-use Rattle.machine.specs.Lists.{Asked, access_words, ask_at, asks_from, Answered, answered, access_on, answer_first, one_by_one, listed, list_done, user_accesses}
+use Rattle.machine.specs.Lists.{Asked, ask_at, asks_from, Answered, answered, access_on, answer_first, one_by_one, listed, list_done, user_accesses}
 use Rattle.crossing.specs.Packing.{unpacked, unpacked_all}
 use Rattle.user_lists.specs.Asks.{ask_of}
 use Rattle.user_lists.specs.declared.Ask.{Ask}
@@ -32,12 +36,7 @@ agree accesses answers = go (eqb (accesses / 5) answers) (eqb (accesses % 5) 0) 
     go true false e f = sym (ne_eqb accesses (5 * answers) (λ h. eqb-false (accesses % 5) 0 f (omega (arith, h))))
     go false r e f = sym (ne_eqb accesses (5 * answers) (λ h. eqb-false (accesses / 5) answers e (omega (arith, h))))
 
--- the access that the words of a list say, its process widened
-pub ask-is : (accesses : List ℕ) (i process : ℕ) → process ≡ get_or accesses (access_words * i) 0
-    → ask_of (record { process = process; access = (ask_at accesses i).access; address = (ask_at accesses i).address }) ≡ ask_at accesses i
-ask-is accesses i process e = rw e
-
--- it crosses as a user access does
+-- an access of a list crosses as a user access does
 pub one-crosses : (s : Shape) (b b₁ : Board) (k : Ask) (asked : Asked) (x : Answer) (r : ℕ) → ask_of k ≡ asked
     → outcome x b₁ ≡ user_access s b k.process k.access k.address → unpacked r ≡ x → outcome (unpacked r) b₁ ≡ access_on s b asked
 one-crosses s b b₁ k asked x r e h f = rw f (h ∙ ap (access_on s b) e)
@@ -97,28 +96,41 @@ module _ (s : Shape) (slots words : List ℕ) (tag : Pending) (accesses : List �
       sym (ap (λ (x : List Answer). answered x (sets_board slots words r c m u tag)) (append-nil (unpacked_all answers)))
       ∙ (rw (z, take_all i answers (omega arith)) at w)
 
+-- where `fit` refuses, the shape and the lengths don't fit
+refusing : (t : Bool) (why : Refusal) → fit t ≡ Err why → (t ≡ false) × (why ≡ Unfit)
+refusing true why e = absurd (let z : ◌≡◌ {A = ℕ} 0 1 = cc in omega arith)
+refusing false why e = (refl, cc)
+
 -- the call, return by return
-module _ (s : Shape) (slots words r c m : List ℕ) (u : Uses) (tag : Pending) (accesses answers : List ℕ) (t : Bool)
-    (f : t ≡ fits_shape s (length slots) (length words) (length r) (length c) (length m) (length u)) where
+module _ (s : Shape) (slots words r c m : List ℕ) (u : Uses) (tag : Pending) (accesses answers : List ℕ) (t : Result Unit Refusal)
+    (f : t ≡ fit (fits_shape s (length slots) (length words) (length r) (length c) (length m) (length u))) where
+  abbrev b : Board
+  b = sets_board slots words r c m u tag
+
   as_many : length (unpacked_all answers) ≡ length answers
   as_many = length-map answers unpacked
 
-  pub list-unfit : (x : Answer) → t ≡ false → x ≡ answer 1 0 0
-      → listed x (answered (unpacked_all answers) (sets_board slots words r c m u tag)) ≡ user_accesses s (sets_board slots words r c m u tag) accesses (unpacked_all answers)
+  pub list-unfit : (x : Result Unit Refusal) (why : Refusal) → t ≡ Err why → x ≡ Err why
+      → listed (call_answer x) (answered (unpacked_all answers) b) ≡ user_accesses s b accesses (unpacked_all answers)
   unfolding user_accesses by_table
-  list-unfit x h k = rw (k, ← f, h)
+  list-unfit x why h k =
+      let z = refusing (fits_shape s (length slots) (length words) (length r) (length c) (length m) (length u)) why (sym f ∙ h) in
+      rw (k, z.0, z.1)
 
-  module _ (h : t ≡ true) (q : Bool) (g : q ≡ eqb (length accesses) (5 * length answers)) where
-    pub list-unlike : (x : Answer) → q ≡ false → x ≡ answer 1 0 0
-        → listed x (answered (unpacked_all answers) (sets_board slots words r c m u tag)) ≡ user_accesses s (sets_board slots words r c m u tag) accesses (unpacked_all answers)
+  module _ (h : t ≡ Ok tt) (q : Bool) (g : q ≡ eqb (length accesses) (5 * length answers)) where
+    fits : fits_shape s (length slots) (length words) (length r) (length c) (length m) (length u) ≡ true
+    fits = sym (fitted s slots words r c m u t f h)
+
+    pub list-unlike : q ≡ false
+        → listed (call_answer (Err Unfit)) (answered (unpacked_all answers) b) ≡ user_accesses s b accesses (unpacked_all answers)
     unfolding user_accesses by_table
-    list-unlike x k e = rw (e, ← f, h, as_many, ← g, k)
+    list-unlike k = rw (fits, as_many, ← g, k)
 
     pub list-taken : q ≡ true → length accesses ≡ 5 * length answers
     list-taken k = eqb-true (length accesses) (5 * length answers) (sym g ∙ k)
 
-    pub list-is-done : (x : Answer) (answers₁ r₁ c₁ m₁ : List ℕ) (u₁ : Uses) → q ≡ true → x ≡ answer 0 0 0
-        → answered (unpacked_all answers₁) (sets_board slots words r₁ c₁ m₁ u₁ tag) ≡ one_by_one s (sets_board slots words r c m u tag) (asks_from accesses 0 (length answers))
-        → listed x (answered (unpacked_all answers₁) (sets_board slots words r₁ c₁ m₁ u₁ tag)) ≡ user_accesses s (sets_board slots words r c m u tag) accesses (unpacked_all answers)
+    pub list-is-done : (answers₁ r₁ c₁ m₁ : List ℕ) (u₁ : Uses) → q ≡ true
+        → answered (unpacked_all answers₁) (sets_board slots words r₁ c₁ m₁ u₁ tag) ≡ one_by_one s b (asks_from accesses 0 (length answers))
+        → listed (call_answer (Ok tt)) (answered (unpacked_all answers₁) (sets_board slots words r₁ c₁ m₁ u₁ tag)) ≡ user_accesses s b accesses (unpacked_all answers)
     unfolding user_accesses by_table
-    list-is-done x answers₁ r₁ c₁ m₁ u₁ k e d = rw (e, ← f, h, as_many, ← g, k) (ap list_done d)
+    list-is-done answers₁ r₁ c₁ m₁ u₁ k d = rw (fits, as_many, ← g, k) (ap list_done d)

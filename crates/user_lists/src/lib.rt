@@ -2,6 +2,7 @@
 #![tactic(auto)]
 
 ghost use Rattle.std.specs.Prelude.{◌≡◌, true, ◌+◌, ◌*◌, ◌≤◌, eqb, length};
+ghost use Rattle.board.specs.Refusals.{call_answer};
 ghost use Rattle.board.specs.Shapes.{fits_shape};
 ghost use Rattle.machine.specs.Boards.{outcome, sets_board};
 ghost use Rattle.machine.specs.Lists.{access_words, ask_at, asks_from, answered, access_on, one_by_one};
@@ -10,17 +11,11 @@ ghost use Rattle.crossing.specs.Packing.{unpacked, unpacked_all};
 ghost use Rattle.user_lists.specs.Asks.{ask_of};
 
 use address::Effective;
-use board::{Answer, Pending, Shape, numbered};
+use board::{Answer, Pending, Refusal, Shape};
 use stores::Access;
 
 // The words of an access in a list: process, load or store, width, effective address, value.
 const ACCESS_WORDS: usize = 5;
-
-fn wide(x: u32) -> usize
-    ensures { result ≡ x }
-{
-    x as usize
-}
 
 // An access of a list.
 #[derive(Clone, Copy)]
@@ -36,15 +31,13 @@ fn ask_at(accesses: &[u32], i: usize) -> Ask
     ensures { ask_of result ≡ ask_at accesses.now i }
 {
     let at = ACCESS_WORDS * i;
-    let process = wide(accesses[at]);
-    let access = Access {
-        store: accesses[at + 1] != 0,
-        width: accesses[at + 2],
-        value: accesses[at + 4],
-    };
     Ask {
-        process: process,
-        access: access,
+        process: accesses[at] as usize,
+        access: Access {
+            store: accesses[at + 1] != 0,
+            width: accesses[at + 2],
+            value: accesses[at + 4],
+        },
         address: Effective(accesses[at + 3]),
     }
 }
@@ -66,12 +59,10 @@ fn one_access(
     ensures { outcome (unpacked result) (sets_board slots.now words.now records.new cache.new memory.new uses.new tag) ≡ access_on s (sets_board slots.now words.now records.old cache.old memory.old uses.old tag) (ask_at accesses.now i) }
 {
     let k = ask_at(accesses, i);
-    let a = k.access;
-    let e = k.address;
-    let x = user_access::fitting_access(
-        s, slots, words, records, cache, memory, uses, tag, k.process, a, e,
+    let r = user_access::fitting_access(
+        s, slots, words, records, cache, memory, uses, tag, k.process, k.access, k.address,
     );
-    crossing::packed_answer(x)
+    crossing::packed_answer(Answer::from(r))
 }
 
 // Does all accesses of a list, each on what the one before it left, and puts each answer at its place.
@@ -90,13 +81,11 @@ fn all_accesses(
     requires { (fits_shape s (length slots.now) (length words.now) (length records.old) (length cache.old) (length memory.old) (length uses.old) ≡ true) × (length accesses.now ≡ access_words * length answers.old) }
     ensures { answered (unpacked_all answers.new) (sets_board slots.now words.now records.new cache.new memory.new uses.new tag) ≡ one_by_one s (sets_board slots.now words.now records.old cache.old memory.old uses.old tag) (asks_from accesses.now 0 (length answers.old)) }
 {
-    let mut i: usize = 0;
-    while i < answers.len() {
+    for (i, answer) in answers.iter_mut().enumerate() {
         let x = one_access(
             s, slots, words, records, cache, memory, uses, tag, accesses, i,
         );
-        answers[i] = x;
-        i += 1;
+        *answer = x;
     }
 }
 
@@ -119,25 +108,15 @@ pub fn user_accesses(
     tag: Pending,
     accesses: &[u32],
     answers: &mut [u64],
-) -> Answer
-    ensures { UserAccesses s (sets_board slots.now words.now records.old cache.old memory.old uses.old tag) accesses.now (unpacked_all answers.old) result (answered (unpacked_all answers.new) (sets_board slots.now words.now records.new cache.new memory.new uses.new tag)) }
+) -> Result<(), Refusal>
+    ensures { UserAccesses s (sets_board slots.now words.now records.old cache.old memory.old uses.old tag) accesses.now (unpacked_all answers.old) (call_answer result) (answered (unpacked_all answers.new) (sets_board slots.now words.now records.new cache.new memory.new uses.new tag)) }
 {
-    if board::fits(
-        s,
-        slots.len(),
-        words.len(),
-        records.len(),
-        cache.len(),
-        memory.len(),
-        uses.len(),
-    ) {
-        if lists_agree(accesses.len(), answers.len()) {
-            all_accesses(
-                s, slots, words, records, cache, memory, uses, tag, accesses, answers,
-            );
-            return numbered(0);
-        }
-        return numbered(1);
+    s.fit(slots, words, records, cache, memory, uses)?;
+    if !lists_agree(accesses.len(), answers.len()) {
+        return Err(Refusal::Unfit);
     }
-    numbered(1)
+    all_accesses(
+        s, slots, words, records, cache, memory, uses, tag, accesses, answers,
+    );
+    Ok(())
 }

@@ -1,21 +1,10 @@
 -- `must_wait` asks an ordinary address for the tag.
-use Rattle.std.proofs.Common.{rules}
-use Rattle.machine.specs.Refusals.{is_ordinary}
-use Rattle.supervisor_access.specs.Plans.{waits}
+use Rattle.supervisor_access.proofs.Plans.{waits-ordinary, waits-not}
 use Rattle.supervisor_access.proofs.must_wait.Goals as goal
+use Rattle.supervisor_access.proofs.must_wait.Goals.{in-Ordinary, in_default}
 
-pub returns-in-Ordinary : goal.returns-in-Ordinary
-unfolding waits is_ordinary
-returns-in-Ordinary c = search rules
-
-pub returns-in-Cached : goal.returns-in-Cached
-unfolding waits is_ordinary
-returns-in-Cached c = search rules
-
-pub returns-in-Uncached : goal.returns-in-Uncached
-unfolding waits is_ordinary
-returns-in-Uncached c = search rules
-
-pub returns-in-PageTable : goal.returns-in-PageTable
-unfolding waits is_ordinary
-returns-in-PageTable c = search rules
+pub returns : goal.returns
+returns c = elim c.match-matches.branch [
+  | in-Ordinary w ↦ waits-ordinary _ _ _ w.in-Ordinary.is w.matches-is
+  | in_default w ↦ waits-not _ _ _ w.in_default.not-Ordinary w.matches-is
+]

@@ -1,27 +1,40 @@
 -- `supervisor_access` is the shape check, `supervisor_plan`, and an access to a line or to memory.
+use Rattle.std.specs.Prelude.{Ok}
+use mathlib.Core.Path.{◌∙◌, ap}
+use Rattle.board.proofs.Refusals.{passed}
+use Rattle.machine.proofs.Fits.{fitted-sized, fitted-words, fitted-uses}
 use Rattle.supervisor_access.proofs.Plans.{line-wide, line-inside, memory-wide, memory-in-word, memory-inside}
-use Rattle.machine.proofs.Fits.{fit-sized, fit_words, fit-uses}
 use Rattle.supervisor_access.proofs.Supervisors.{supervisor-unfit, supervisor-stopped, supervisor-line, supervisor-memory}
 use borrow.Author.Rules.{rules}
 use Rattle.supervisor_access.proofs.supervisor_access.Goals as goal
 
 pub supervisor_plan-requires : goal.supervisor_plan-requires
-supervisor_plan-requires c = search (rules, fit_words)
+supervisor_plan-requires c = search (rules, fitted-words)
 
 pub line_access-requires : goal.line_access-requires
-line_access-requires c = (search (rules, fit-sized), search (rules, fit-uses), search (rules, fit_words), search (rules, line-wide), search (rules, line-inside))
+line_access-requires c =
+    let k = c.in_ok-h.was ∙ ap Ok c.in-Line.is in
+    (search (rules, fitted-sized), search (rules, fitted-uses), search (rules, fitted-words), line-wide _ _ _ _ _ _ c.supervisor_plan.ensures _ k, line-inside _ _ _ _ _ _ c.supervisor_plan.ensures _ k)
 
 pub memory_access-requires : goal.memory_access-requires
-memory_access-requires c = (search (rules, memory-inside), search (rules, memory-in-word), search (rules, memory-wide))
+memory_access-requires c =
+    let k = c.in_ok-h.was ∙ ap Ok c.in-Memory.is in
+    (memory-inside _ _ _ _ _ _ c.supervisor_plan.ensures _ k _ _ _ _ _ _ c.fit.ensures c.in_ok-fit.was, memory-in-word _ _ _ _ _ _ c.supervisor_plan.ensures _ k, memory-wide _ _ _ _ _ _ c.supervisor_plan.ensures _ k)
 
-pub returns-in-Stop : goal.returns-in-Stop
-returns-in-Stop c = search (rules, supervisor-stopped)
+pub returns-in_err-fit : goal.returns-in_err-fit
+returns-in_err-fit c = supervisor-unfit _ _ _ _ _ _ _ _ _ _ _ c.fit.ensures _ _ c.in_err-fit.was (passed c.from_residual.ensures.1)
+
+pub returns-in_err-h : goal.returns-in_err-h
+returns-in_err-h c =
+    supervisor-stopped _ _ _ _ _ _ _ _ _ _ _ c.fit.ensures c.in_ok-fit.was _ c.supervisor_plan.ensures _ _ c.in_err-h.was
+    (passed c.from_residual-in_err-h.ensures.1)
 
 pub returns-in-Line : goal.returns-in-Line
-returns-in-Line c = search (rules, supervisor-line)
+returns-in-Line c =
+    supervisor-line _ _ _ _ _ _ _ _ _ _ _ c.fit.ensures c.in_ok-fit.was _ c.supervisor_plan.ensures _ _ _ _ _ _ (c.in_ok-h.was ∙ ap Ok c.in-Line.is)
+    c.line_access.ensures
 
 pub returns-in-Memory : goal.returns-in-Memory
-returns-in-Memory c = search (rules, supervisor-memory)
-
-pub returns-else-fits : goal.returns-else-fits
-returns-else-fits c = search (rules, supervisor-unfit)
+returns-in-Memory c =
+    supervisor-memory _ _ _ _ _ _ _ _ _ _ _ c.fit.ensures c.in_ok-fit.was _ c.supervisor_plan.ensures _ _ _ (c.in_ok-h.was ∙ ap Ok c.in-Memory.is)
+    c.memory_access.ensures

@@ -15,8 +15,8 @@ returns-then-must_wait c = search (rules, plan-waits)
 pub returns-then-too_large-2 : goal.returns-then-too_large-2
 returns-then-too_large-2 c = search (rules, plan-value)
 
-pub returns-then-global_aligned : goal.returns-then-global_aligned
-returns-then-global_aligned c = search (rules, plan-region)
+pub returns-then-not-aligned : goal.returns-then-not-aligned
+returns-then-not-aligned c = search (rules, plan-unaligned)
 
 pub returns : goal.returns
-returns c = search (rules, plan-unaligned)
+returns c = search (rules, plan-region)

@@ -1,6 +1,7 @@
 -- `fitting_access` is `user_check` and `line_access`.
+use Rattle.board.proofs.Refusals.{passed}
 use Rattle.user_access.proofs.Checks.{passed-wide, passed-inside}
-use Rattle.user_access.proofs.Users.{fitting-slots, fitting-processes, fitting-uses, fitting-words, fitting-sized, user_refused, user-goes}
+use Rattle.user_access.proofs.Users.{fitting-slots, fitting-processes, fitting-uses, fitting-words, fitting-sized, user-refused, user-goes}
 use borrow.Author.Rules.{rules}
 use Rattle.user_access.proofs.fitting_access.Goals as goal
 
@@ -10,8 +11,8 @@ user_check-requires c = (search (rules, fitting-slots), search (rules, fitting-p
 pub line_access-requires : goal.line_access-requires
 line_access-requires c = (search (rules, fitting-sized), search (rules, fitting-uses), search (rules, fitting-words), search (rules, passed-wide), search (rules, passed-inside))
 
-pub returns-in-Refuse : goal.returns-in-Refuse
-returns-in-Refuse c = search (rules, user_refused)
+pub returns-in_err-g : goal.returns-in_err-g
+returns-in_err-g c = user-refused _ _ _ _ _ _ _ c.requires _ _ _ _ _ c.user_check.ensures _ _ c.in_err-g.was (passed c.from_residual.ensures.1)
 
-pub returns-in-Go : goal.returns-in-Go
-returns-in-Go c = search (rules, user-goes)
+pub returns : goal.returns
+returns c = user-goes _ _ _ _ _ _ _ c.requires _ _ _ _ _ c.user_check.ensures _ _ _ _ _ _ c.in_ok-g.was c.line_access.ensures

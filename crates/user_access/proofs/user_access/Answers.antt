@@ -1,10 +1,10 @@
 -- `user_access` is the shape check and `fitting_access`.
+use Rattle.board.proofs.Refusals.{passed}
 use Rattle.user_access.proofs.Users.{user-unfit, user-fit}
-use borrow.Author.Rules.{rules}
 use Rattle.user_access.proofs.user_access.Goals as goal
 
 pub fitting_access-requires : goal.fitting_access-requires
-fitting_access-requires c = search (rules, user-fit)
+fitting_access-requires c = user-fit _ _ _ _ _ _ _ _ c.fit.ensures c.in_ok-fit.was
 
-pub returns-else-fits : goal.returns-else-fits
-returns-else-fits c = search (rules, user-unfit)
+pub returns-in_err-fit : goal.returns-in_err-fit
+returns-in_err-fit c = user-unfit _ _ _ _ _ _ _ _ c.fit.ensures _ _ _ _ _ _ c.in_err-fit.was (passed c.from_residual.ensures.1)

@@ -32,8 +32,8 @@ offset_bounds-slots-process c = let x = c.args in let z : x.process < x.s.proces
 pub bounds-slots-process : goal.bounds-slots-process
 bounds-slots-process c = search (rules, slot-inside)
 
-pub returns-then-effective_aligned : goal.returns-then-effective_aligned
-returns-then-effective_aligned c = search (rules, check-slot)
+pub returns-then-not-aligned : goal.returns-then-not-aligned
+returns-then-not-aligned c = search (rules, check-aligned)
 
 pub returns : goal.returns
-returns c = search (rules, check-aligned)
+returns c = search (rules, check-slot)

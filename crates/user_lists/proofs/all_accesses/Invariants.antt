@@ -1,5 +1,4 @@
 -- `all_accesses`: after i turns the answers so far, and what the rest leaves, are what the whole list leaves.
-use Prim.Native.Nat.{◌-◌, ◌≤◌}
 use mathlib.Core.Path.{◌≡◌}
 use lib.ListN.{length}
 use Rattle.machine.specs.Boards.{sets_board}
@@ -9,10 +8,5 @@ use Rattle.user_lists.proofs.all_accesses.Given as goal
 
 abbrev pub invariant-loop-i : goal.invariant-loop-i
 invariant-loop-i l =
-    (l.i ≤ length l.initial.answers) × (length l.records ≡ length l.initial.records) × (length l.cache ≡ length l.initial.cache) × (length l.memory ≡ length l.initial.memory)
-    × (length l.answers ≡ length l.initial.answers) × (length l.uses ≡ length l.initial.uses)
-    × (so_far l.s l.slots l.words l.tag l.accesses (length l.initial.answers) l.answers l.i l.records l.cache l.memory l.uses
-    ≡ one_by_one l.s (sets_board l.slots l.words l.initial.records l.initial.cache l.initial.memory l.initial.uses l.tag) (asks_from l.accesses 0 (length l.initial.answers)))
-
-abbrev pub decreases-loop-i : goal.decreases-loop-i
-decreases-loop-i l = length l.initial.answers - l.i
+    so_far l.s l.slots l.words l.tag l.accesses (length l.initial.answers) l.answers l.i l.records l.cache l.memory l.uses
+    ≡ one_by_one l.s (sets_board l.slots l.words l.initial.records l.initial.cache l.initial.memory l.initial.uses l.tag) (asks_from l.accesses 0 (length l.initial.answers))
