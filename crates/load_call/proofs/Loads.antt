@@ -23,7 +23,7 @@ use Rattle.lines.specs.Holds.{holder_of}
 use Rattle.lines.specs.Victims.{Uses, victim_of, room_by, room_for, used_in}
 use Rattle.machine.specs.Boards.{Board, sets_board, Outcome, outcome, refused, done, no_tag, with_tag}
 use Rattle.machine.specs.Refusals.{by_table, is_mapped}
-use Rattle.machine.specs.Calls.{found_frame, name_writes, load_rows, loaded_by, loaded_uses, Loaded, loaded_with, loaded, on_loaded, load_and_map}
+use Rattle.machine.specs.Calls.{found_frame, load_rows, loaded_by, loaded_uses, Loaded, loaded_with, loaded, on_loaded, load_and_map}
 use Rattle.machine.proofs.Tables.{known, by_check, check-table}
 use Rattle.load_call.specs.Checks.{load_frame, load_check}
 use Rattle.machine.proofs.Fits.{fitted-table}

@@ -1,4 +1,4 @@
--- What the code of load-and-map decides before it changes anything: a number, or the permission it goes on with.
+-- What the code of load-and-map decides before it changes anything: why it refuses, or the permission it goes on with.
 use Rattle.std.specs.Prelude.{ℕ, Bool, List, Result}
 use Rattle.board.specs.declared.Shape.{Shape}
 use Rattle.board.specs.declared.Pending.{Pending}

@@ -2,14 +2,12 @@
 use Rattle.std.specs.Prelude.{Option, Some, None, Result, Ok, Err}
 use Prim.Native.Nat.{ℕ, ◌+◌, ◌*◌, ◌<◌, ◌≤◌}
 use mathlib.Core.Path.{◌≡◌, refl, ◌∙◌, sym, ap}
-use mathlib.Core.Bool.{Bool, true, false, not, cond}
 use mathlib.Core.List.{List}
 use native.Mathlib.Nat.{add-sub_cancel_left}
 use native.Mathlib.Omega.{arith}
 use lib.ListN.{length}
-use lib.Dec.{ltb}
-use borrow.Author.Tests.{ltb-true, not-false, lt-ltb, le-ltb}
-use Rattle.board.specs.Shapes.{max_lines, fits_shape}
+use borrow.Author.Tests.{lt-ltb, le-ltb}
+use Rattle.board.specs.Shapes.{max_lines}
 use Rattle.board.specs.declared.Shape.{Shape}
 use Rattle.board.specs.declared.Pending.{Pending}
 use Rattle.board.specs.declared.Refusal.{Refusal}
@@ -20,11 +18,9 @@ use Rattle.stores.specs.Premises.{Sized}
 use Rattle.stores.specs.Stores.{store, current_by, current}
 use Rattle.lines.specs.Holds.{keeper_of}
 use Rattle.lines.specs.Victims.{Uses}
-use Rattle.machine.specs.Boards.{Board, sets_board, fits_board}
+use Rattle.machine.specs.Boards.{Board, sets_board}
 use Rattle.machine.specs.Refusals.{by_table}
 use Rattle.machine.specs.Looks.{look_number, look}
-use Rattle.machine.proofs.Tables.{table-passed}
-use Rattle.machine.proofs.Fits.{fit-sized}
 use Rattle.line_calls.proofs.Looks.{keeper-inside, look-accepted, look-sized, look-line, look-inside, look-refused}
 use Rattle.look_place.specs.Lends.{in_memory, nowhere, place_by, look_place, bytes_at, PlaceIsLook}
 

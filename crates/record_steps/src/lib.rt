@@ -58,13 +58,7 @@ pub fn protect_line(s: Shape, i: usize, l: Line, page: u64, write: bool) -> Line
 {
     let h = lines::holds(s, i, l);
     if h & (l.name / PAGE_NAMES == page) {
-        return Line {
-            valid: l.valid,
-            name: l.name,
-            physical: l.physical,
-            changed: l.changed,
-            write: write,
-        };
+        return Line { write, ..l };
     }
     l
 }

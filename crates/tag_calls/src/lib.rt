@@ -30,10 +30,7 @@ pub fn tag(
     if pending.set {
         return Err(Refusal::TagState);
     }
-    *pending = Pending {
-        set: true,
-        name: name,
-    };
+    *pending = Pending { set: true, name };
     Ok(())
 }
 

@@ -9,9 +9,11 @@ pub load_check-requires : goal.load_check-requires
 load_check-requires c = (fitted-words _ _ _ _ _ _ _ _ c.fit.ensures c.in_ok-fit.was, fitted-frames _ _ _ _ _ _ _ _ c.fit.ensures c.in_ok-fit.was)
 
 pub load_line-requires : goal.load_line-requires
-load_line-requires c =
-    (fitted-sized _ _ _ _ _ _ _ _ c.fit.ensures c.in_ok-fit.was, fitted-uses _ _ _ _ _ _ _ _ c.fit.ensures c.in_ok-fit.was,
-    fill-line _ _ _ _ _ _ c.load_check.ensures c.in_ok-write.was)
+load_line-requires c = (
+  fitted-sized _ _ _ _ _ _ _ _ c.fit.ensures c.in_ok-fit.was,
+  fitted-uses _ _ _ _ _ _ _ _ c.fit.ensures c.in_ok-fit.was,
+  fill-line _ _ _ _ _ _ c.load_check.ensures c.in_ok-write.was,
+)
 
 pub returns-in_err-fit : goal.returns-in_err-fit
 unfolding load_and_map

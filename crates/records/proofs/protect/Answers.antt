@@ -1,5 +1,5 @@
 -- `protect` decides, and walks all lines if nothing refuses.
-use Rattle.std.proofs.Common.{◌<◌, ◌≡◌, length, sym, arith}
+use Rattle.std.proofs.Common.{◌≡◌, length, sym, arith}
 use Rattle.board.proofs.Refusals.{passed}
 use Rattle.visits.specs.Visits.{protect_visit}
 use Rattle.record_steps.proofs.Decided.{word-placed, protect-refused, protect-done}
