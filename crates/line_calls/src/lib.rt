@@ -1,9 +1,10 @@
-// 01, "Calls": flush all, and look with its number.
+// 01, "Calls": flush all, and look with its refusal.
 #![tactic(auto)]
 
 ghost use Rattle.std.specs.Prelude.{◌≡◌, ◌*◌, ◌<◌};
 ghost use Rattle.address.specs.Layout.{page_lines};
 ghost use Rattle.board.specs.declared.Pending.{Pending};
+ghost use Rattle.board.specs.Refusals.{call_answer};
 ghost use Rattle.lines.specs.Holds.{keeper_of};
 ghost use Rattle.stores.specs.Stores.{current, store};
 ghost use Rattle.stores.specs.Premises.{Sized};
@@ -11,7 +12,7 @@ ghost use Rattle.machine.specs.Looks.{start_by};
 ghost use Rattle.machine.specs.Clauses.{FlushAll, LookNumber, Look};
 ghost use Rattle.machine.specs.Boards.{sets_board};
 
-use board::{Answer, LINE_BYTES, PAGE_LINES, Shape, numbered};
+use board::{LINE_BYTES, PAGE_LINES, Refusal, Shape};
 
 // Writes back every changed line and drops all.
 pub fn flush_all(
@@ -22,27 +23,16 @@ pub fn flush_all(
     cache: &[u8],
     memory: &mut [u8],
     uses: &[[[u8; 4]; 4]],
-) -> Answer
-    ensures { (tag : Pending) → FlushAll s (sets_board slots.now words.now records.old cache.now memory.old uses.now tag) result (sets_board slots.now words.now records.new cache.now memory.new uses.now tag) }
+) -> Result<(), Refusal>
+    ensures { (tag : Pending) → FlushAll s (sets_board slots.now words.now records.old cache.now memory.old uses.now tag) (call_answer result) (sets_board slots.now words.now records.new cache.now memory.new uses.now tag) }
 {
-    if board::fits(
-        s,
-        slots.len(),
-        words.len(),
-        records.len(),
-        cache.len(),
-        memory.len(),
-        uses.len(),
-    ) {
-        visits::visit_names(s, records, cache, memory, visits::of_flush());
-        numbered(0)
-    } else {
-        numbered(1)
-    }
+    s.fit(slots, words, records, cache, memory, uses)?;
+    visits::visit_names(s, records, cache, memory, visits::of_flush());
+    Ok(())
 }
 
-// The number that look gives.
-pub fn look_number(
+// Numbers 1 and 2 of look, which changes nothing.
+pub fn look_check(
     s: Shape,
     slots: &[u32],
     words: &[u64],
@@ -51,25 +41,14 @@ pub fn look_number(
     memory: &[u8],
     uses: &[[[u8; 4]; 4]],
     line: usize,
-) -> u32
-    ensures { (tag : Pending) → LookNumber s (sets_board slots.now words.now records.now cache.now memory.now uses.now tag) line result }
+) -> Result<(), Refusal>
+    ensures { (tag : Pending) → LookNumber s (sets_board slots.now words.now records.now cache.now memory.now uses.now tag) line (call_answer result).number }
 {
-    if board::fits(
-        s,
-        slots.len(),
-        words.len(),
-        records.len(),
-        cache.len(),
-        memory.len(),
-        uses.len(),
-    ) {
-        if line < PAGE_LINES * s.frames {
-            return 0;
-        }
-        2
-    } else {
-        1
+    s.fit(slots, words, records, cache, memory, uses)?;
+    if line >= PAGE_LINES * s.frames {
+        return Err(Refusal::OutOfRange);
     }
+    Ok(())
 }
 
 // The sixteen bytes of a physical line where they stand now: a part of the cache bytes or of memory.
@@ -108,19 +87,8 @@ pub fn look<'a>(
 ) -> &'a [u8]
     ensures { (tag : Pending) → Look s (sets_board slots.now words.now records.now cache.now memory.now uses.now tag) line cache.entry memory.entry result }
 {
-    if board::fits(
-        s,
-        slots.len(),
-        words.len(),
-        records.len(),
-        cache.len(),
-        memory.len(),
-        uses.len(),
-    ) {
-        if line < PAGE_LINES * s.frames {
-            return current_part(s, records, cache, memory, line);
-        }
-        return &cache[0..0];
+    match look_check(s, slots, words, records, cache, memory, uses, line) {
+        Ok(()) => current_part(s, records, cache, memory, line),
+        Err(_) => &cache[0..0],
     }
-    &cache[0..0]
 }

@@ -40,8 +40,8 @@ pub fn place(
 ) -> u64
     ensures { (tag : Pending) → LookPlace s (sets_board slots.now words.now records.now cache.now memory.now uses.now tag) line result }
 {
-    if line_calls::look_number(s, slots, words, records, cache, memory, uses, line) == 0 {
-        return place_of_line(s, records, cache, memory, line);
+    match line_calls::look_check(s, slots, words, records, cache, memory, uses, line) {
+        Ok(()) => place_of_line(s, records, cache, memory, line),
+        Err(_) => NOWHERE,
     }
-    NOWHERE
 }

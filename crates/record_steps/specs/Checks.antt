@@ -1,5 +1,5 @@
 -- What the code inside decides and asks; no call's definition needs these.
-use Rattle.std.specs.Prelude.{ℕ, ◌*◌, ◌<◌, ◌≡◌, Bool, cond, List}
+use Rattle.std.specs.Prelude.{ℕ, ◌*◌, ◌<◌, ◌≡◌, Bool, List}
 use Rattle.address.specs.Layout.{line_bytes, page_bytes}
 use Rattle.board.specs.Answers.{answer}
 use Rattle.board.specs.declared.Answer.{Answer}
@@ -23,10 +23,6 @@ word_changed s slots words lines cache memory page write =
 -- flush all's answer
 abbrev pub flush_answer : Shape → ℕ → ℕ → ℕ → ℕ → ℕ → Answer
 flush_answer s slots words lines cache memory = answer (lowest (lent_flush_table s slots words lines cache memory)) 0 0
-
--- the lines to walk: all or none
-abbrev pub turns_when : Bool → ℕ → ℕ
-turns_when done lines = cond done lines 0
 
 -- line i stands on an accepted board, and its cache and memory have their lengths
 pub record Placed (s : Shape) (i cache memory : ℕ) : Type 0 where

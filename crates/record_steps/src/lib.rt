@@ -1,17 +1,35 @@
 // Protect and flush all over line records: what they decide before the lines, and one line record by value.
 #![tactic(auto)]
 
-ghost use Rattle.std.specs.Prelude.{◌≡◌, ◌*◌, ◌<◌, ◌^◌, eqb, length};
-ghost use Rattle.board.specs.Shapes.{record_words};
+ghost use Rattle.std.specs.Prelude.{◌≡◌, ◌*◌, ◌<◌, ◌^◌, length};
+ghost use Rattle.board.specs.Refusals.{fit, call_answer};
+ghost use Rattle.board.specs.Shapes.{fits_shape, record_words};
 ghost use Rattle.lines.specs.Premises.{Lined};
 ghost use Rattle.visits.specs.Visits.{protect_visit, flush_visit};
 ghost use Rattle.record_steps.specs.Lent.{line_visited, line_flushed};
-ghost use Rattle.record_steps.specs.Checks.{Placed, worded, word_changed, flush_answer, turns_when};
+ghost use Rattle.record_steps.specs.Checks.{Placed, worded, word_changed, flush_answer};
 
 use address::PAGE_NAMES;
-use board::{Answer, RECORD_WORDS, Shape, numbered};
+use board::{RECORD_WORDS, Refusal, Shape};
 use lines::Line;
-use page_calls::Frame;
+
+// Number 1 of both, by the lengths of the buffers.
+pub fn fit_lines(
+    s: Shape,
+    slots: usize,
+    words: usize,
+    lines: usize,
+    cache: usize,
+    memory: usize,
+) -> Result<(), Refusal>
+    requires { record_words * lines < 2 ^ 64 }
+    ensures { (result ≡ fit (fits_shape s slots words (record_words * lines) cache memory 0)) × (call_answer result ≡ flush_answer s slots words lines cache memory) }
+{
+    if board::fits(s, slots, words, RECORD_WORDS * lines, cache, memory, 0) {
+        return Ok(());
+    }
+    Err(Refusal::Unfit)
+}
 
 // What protect does before it walks the lines: numbers 1, 2 and 8, by the lengths of the other buffers, or the frame word.
 pub fn protect_word(
@@ -23,57 +41,14 @@ pub fn protect_word(
     memory: usize,
     page: u64,
     write: bool,
-) -> Answer
+) -> Result<(), Refusal>
     requires { record_words * lines < 2 ^ 64 }
-    ensures { worded result words.new ≡ word_changed s slots words.old lines cache memory page write }
+    ensures { worded (call_answer result) words.new ≡ word_changed s slots words.old lines cache memory page write }
 {
-    if board::fits(
-        s,
-        slots,
-        words.len(),
-        RECORD_WORDS * lines,
-        cache,
-        memory,
-        0,
-    ) {
-        match page_calls::page_frame(s, words, page) {
-            Frame::Stop(n) => numbered(n),
-            Frame::On(f) => {
-                words[f] = pages::frame_word(page, write);
-                numbered(0)
-            }
-        }
-    } else {
-        numbered(1)
-    }
-}
-
-// Number 1 of flush all, by the lengths of the buffers.
-pub fn flush_number(
-    s: Shape,
-    slots: usize,
-    words: usize,
-    lines: usize,
-    cache: usize,
-    memory: usize,
-) -> Answer
-    requires { record_words * lines < 2 ^ 64 }
-    ensures { result ≡ flush_answer s slots words lines cache memory }
-{
-    if board::fits(s, slots, words, RECORD_WORDS * lines, cache, memory, 0) {
-        return numbered(0);
-    }
-    numbered(1)
-}
-
-// How many lines a call with this answer walks: all, or none if it is refused.
-pub fn turns(a: Answer, lines: usize) -> usize
-    ensures { result ≡ turns_when (eqb a.number 0) lines }
-{
-    if a.number == 0 {
-        return lines;
-    }
-    0
+    fit_lines(s, slots, words.len(), lines, cache, memory)?;
+    let f = page_calls::page_frame(s, words, page)?;
+    words[f] = pages::frame_word(page, write);
+    Ok(())
 }
 
 // What protect makes of line `i`.
@@ -83,13 +58,7 @@ pub fn protect_line(s: Shape, i: usize, l: Line, page: u64, write: bool) -> Line
 {
     let h = lines::holds(s, i, l);
     if h & (l.name / PAGE_NAMES == page) {
-        return Line {
-            valid: l.valid,
-            name: l.name,
-            physical: l.physical,
-            changed: l.changed,
-            write: write,
-        };
+        return Line { write, ..l };
     }
     l
 }

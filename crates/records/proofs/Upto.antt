@@ -1,7 +1,6 @@
 -- A list whose first k elements were walked, and the others not yet: what a loop over a slice has after k turns.
-use Prim.Native.Nat.{ℕ, zero, suc, ◌+◌, ◌≤◌, ◌<◌}
+use Prim.Native.Nat.{ℕ, zero, suc, ◌+◌, ◌<◌}
 use mathlib.Core.Path.{◌≡◌, refl, ◌∙◌, ap}
-use mathlib.Core.Bool.{Bool, true, false, cond}
 use mathlib.Core.List.{List, [], ◌∷◌}
 use native.Mathlib.Omega.{arith}
 use lib.ListN.{length, get_or, set}
@@ -9,7 +8,6 @@ use Rattle.board.specs.declared.Shape.{Shape}
 use Rattle.lines.specs.declared.Line.{Line}
 use Rattle.visits.specs.declared.Visit.{Visit}
 use Rattle.record_steps.specs.Lent.{line_visited, lines_visited, line_flushed, flushed_memory}
-use Rattle.record_steps.specs.Checks.{turns_when}
 use Rattle.record_steps.proofs.Single.{length-flushed}
 
 -- ---- the lines: the first k of those from line i on were visited
@@ -56,11 +54,6 @@ module _ (s : Shape) (v : Visit) where
   upto_all i [] = refl
   upto_all i (l ∷ ls) = ap (λ (ys : List Line). line_visited s v i l ∷ ys) (upto_all (suc i) ls)
 
-  -- all turns or none
-  pub upto-turns : (t : Bool) (ls : List Line) → visited_upto 0 (turns_when t (length ls)) ls ≡ cond t (lines_visited s v 0 ls) ls
-  upto-turns true ls = upto_all 0 ls
-  upto-turns false ls = upto-none 0 ls
-
   -- of the lines as the loop has them: a turn, and the end
   pub walked-more : (k : ℕ) (ls now : List Line) (d r : Line) → now ≡ visited_upto 0 k ls → k < length ls → r ≡ line_visited s v k (get_or now k d)
       → set now k r ≡ visited_upto 0 (k + 1) ls
@@ -68,11 +61,8 @@ module _ (s : Shape) (v : Visit) where
       let f : k + 1 ≡ suc k = omega arith in
       rw (f, w) (upto-set k ls d r h (e ∙ ap (λ (ys : List Line). line_visited s v k (get_or ys k d)) w))
 
-  pub walked-all : (t : Bool) (k n : ℕ) (ls now : List Line) → now ≡ visited_upto 0 k ls → n ≡ turns_when t (length ls) → k ≤ n → n ≤ k
-      → now ≡ cond t (lines_visited s v 0 ls) ls
-  walked-all t k n ls now w e l h =
-      let f : k ≡ turns_when t (length ls) = omega arith in
-      w ∙ (ap (λ (m : ℕ). visited_upto 0 m ls) f ∙ upto-turns t ls)
+  pub walked-all : (k : ℕ) (ls now : List Line) → now ≡ visited_upto 0 k ls → k ≡ length ls → now ≡ lines_visited s v 0 ls
+  walked-all k ls now w e = w ∙ (ap (λ (m : ℕ). visited_upto 0 m ls) e ∙ upto_all 0 ls)
 
 -- ---- memory: the first k of the lines from line i on were flushed
 
@@ -109,10 +99,6 @@ module _ (s : Shape) (cache : List ℕ) where
   memory-all i [] memory = refl
   memory-all i (l ∷ ls) memory = memory-all (suc i) ls (line_flushed s i l cache memory)
 
-  pub memory-turns : (t : Bool) (ls : List Line) (memory : List ℕ) → memory_upto 0 (turns_when t (length ls)) ls memory ≡ cond t (flushed_memory s 0 ls cache memory) memory
-  memory-turns true ls memory = memory-all 0 ls memory
-  memory-turns false ls memory = memory-none 0 ls memory
-
   -- of memory as the loop has it: a turn, and the end
   pub flushed-more : (v : Visit) (k : ℕ) (ls now : List Line) (memory bytes : List ℕ) (d : Line) → now ≡ visited_upto s v 0 k ls → bytes ≡ memory_upto 0 k ls memory
       → k < length ls → line_flushed s k (get_or now k d) cache bytes ≡ memory_upto 0 (k + 1) ls memory
@@ -120,8 +106,6 @@ module _ (s : Shape) (cache : List ℕ) where
       let f : k + 1 ≡ suc k = omega arith in
       rw (f, w, b) (memory-more v k ls memory d h)
 
-  pub flushed-all : (t : Bool) (k n : ℕ) (ls : List Line) (memory bytes : List ℕ) → bytes ≡ memory_upto 0 k ls memory → n ≡ turns_when t (length ls) → k ≤ n → n ≤ k
-      → bytes ≡ cond t (flushed_memory s 0 ls cache memory) memory
-  flushed-all t k n ls memory bytes b e l h =
-      let f : k ≡ turns_when t (length ls) = omega arith in
-      b ∙ (ap (λ (m : ℕ). memory_upto 0 m ls memory) f ∙ memory-turns t ls memory)
+  pub flushed-all : (k : ℕ) (ls : List Line) (memory bytes : List ℕ) → bytes ≡ memory_upto 0 k ls memory → k ≡ length ls
+      → bytes ≡ flushed_memory s 0 ls cache memory
+  flushed-all k ls memory bytes b e = b ∙ (ap (λ (m : ℕ). memory_upto 0 m ls memory) e ∙ memory-all 0 ls memory)

@@ -2,10 +2,11 @@
 // goes by value through a function that says what happens to one line.
 #![tactic(auto)]
 
+ghost use Rattle.board.specs.Refusals.{call_answer};
 ghost use Rattle.record_steps.specs.Clauses.{ProtectLent, FlushLent};
 ghost use Rattle.record_steps.specs.Lent.{lent_board};
 
-use board::{Answer, Shape};
+use board::{Refusal, Shape};
 use lines::Line;
 
 // Changes a page's write bit, and that of every held line named in the page.
@@ -18,27 +19,23 @@ pub fn protect(
     memory: &[u8],
     page: u64,
     write: bool,
-) -> Answer
-    ensures { ProtectLent s (lent_board slots.now words.old lines.old cache.now memory.now) page write result (lent_board slots.now words.new lines.new cache.now memory.now) }
+) -> Result<(), Refusal>
+    ensures { ProtectLent s (lent_board slots.now words.old lines.old cache.now memory.now) page write (call_answer result) (lent_board slots.now words.new lines.new cache.now memory.now) }
 {
-    let count = lines.len();
-    let a = record_steps::protect_word(
+    record_steps::protect_word(
         s,
         slots.len(),
         words,
-        count,
+        lines.len(),
         cache.len(),
         memory.len(),
         page,
         write,
-    );
-    let n = record_steps::turns(a, count);
-    let mut i = 0;
-    while i < n {
-        lines[i] = record_steps::protect_line(s, i, lines[i], page, write);
-        i += 1;
+    )?;
+    for (i, line) in lines.iter_mut().enumerate() {
+        *line = record_steps::protect_line(s, i, *line, page, write);
     }
-    a
+    Ok(())
 }
 
 // Writes every held and changed line back, by rising place, and drops every held line.
@@ -49,24 +46,19 @@ pub fn flush_all(
     lines: &mut [Line],
     cache: &[u8],
     memory: &mut [u8],
-) -> Answer
-    ensures { FlushLent s (lent_board slots.now words.now lines.old cache.now memory.old) result (lent_board slots.now words.now lines.new cache.now memory.new) }
+) -> Result<(), Refusal>
+    ensures { FlushLent s (lent_board slots.now words.now lines.old cache.now memory.old) (call_answer result) (lent_board slots.now words.now lines.new cache.now memory.new) }
 {
-    let count = lines.len();
-    let a = record_steps::flush_number(
+    record_steps::fit_lines(
         s,
         slots.len(),
         words.len(),
-        count,
+        lines.len(),
         cache.len(),
         memory.len(),
-    );
-    let n = record_steps::turns(a, count);
-    let mut i = 0;
-    while i < n {
-        let l = record_steps::flush_line(s, i, lines[i], cache, memory);
-        lines[i] = l;
-        i += 1;
+    )?;
+    for (i, line) in lines.iter_mut().enumerate() {
+        *line = record_steps::flush_line(s, i, *line, cache, memory);
     }
-    a
+    Ok(())
 }

@@ -62,7 +62,7 @@ fn one_access(
     let r = user_access::fitting_access(
         s, slots, words, records, cache, memory, uses, tag, k.process, k.access, k.address,
     );
-    crossing::packed_answer(Answer::from(r))
+    crossing::packed_access(r)
 }
 
 // Does all accesses of a list, each on what the one before it left, and puts each answer at its place.

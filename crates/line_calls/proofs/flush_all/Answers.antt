@@ -1,18 +1,16 @@
 -- `flush_all` visits all lines.
+use Rattle.board.proofs.Refusals.{passed}
 use Rattle.machine.specs.Calls.{flush_all}
-use Rattle.machine.proofs.Fits.{fit-sized, unfit}
+use Rattle.machine.proofs.Fits.{fitted-sized, unfitted}
 use Rattle.line_calls.proofs.Flushes.{flush-done}
-use borrow.Author.Rules.{rules}
 use Rattle.line_calls.proofs.flush_all.Goals as goal
 
 pub visit_names-requires : goal.visit_names-requires
-unfolding flush_all
-visit_names-requires c = search (rules, fit-sized)
+visit_names-requires c = fitted-sized _ _ _ _ _ _ _ _ c.fit.ensures c.in_ok-fit.was
 
-pub returns-then-fits : goal.returns-then-fits
+pub returns-in_err-fit : goal.returns-in_err-fit
 unfolding flush_all
-returns-then-fits c = λ tag. search (rules, flush-done)
+returns-in_err-fit c = λ tag. unfitted _ _ _ _ _ _ _ _ c.fit.ensures _ _ tag _ _ c.in_err-fit.was (passed c.from_residual.ensures.1)
 
-pub returns-else-fits : goal.returns-else-fits
-unfolding flush_all
-returns-else-fits c = λ tag. search (rules, unfit)
+pub returns : goal.returns
+returns c = λ tag. flush-done _ _ _ _ _ _ _ tag _ c.fit.ensures c.in_ok-fit.was _ _ _ c.of_flush.ensures c.visit_names.ensures

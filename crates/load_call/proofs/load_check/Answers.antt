@@ -6,8 +6,8 @@ use Rattle.load_call.proofs.load_check.Goals as goal
 pub returns-then-line-s : goal.returns-then-line-s
 returns-then-line-s c = search (rules, check-outside)
 
-pub returns-then-pending : goal.returns-then-pending
-returns-then-pending c = search (rules, check-home)
+pub returns-then-not-pending : goal.returns-then-not-pending
+returns-then-not-pending c = search (rules, check-empty)
 
 pub returns : goal.returns
-returns c = search (rules, check-empty)
+returns c = search (rules, check-home)

@@ -1,15 +1,10 @@
 -- `protect` walks the lines: those below `i` were visited, the others not yet.
-use Rattle.std.proofs.Common.{◌-◌, ◌≡◌, ◌≤◌, length}
+use Rattle.std.proofs.Common.{◌≡◌}
 use Rattle.visits.specs.Visits.{protect_visit}
 use Rattle.records.proofs.Upto.{visited_upto}
 use Rattle.records.proofs.protect.Given as goal
 
 abbrev pub invariant-loop-i : goal.invariant-loop-i
 invariant-loop-i l = record {
-  within : l.i ≤ l.n;
-  turns : l.n ≤ length l.initial.lines;
   walked : l.lines ≡ visited_upto l.s (protect_visit l.page l.write) 0 l.i l.initial.lines;
 }
-
-abbrev pub decreases-loop-i : goal.decreases-loop-i
-decreases-loop-i l = l.n - l.i
