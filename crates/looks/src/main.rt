@@ -20,6 +20,7 @@ const LINE_START: usize = 4096;
 const PAST: usize = 1024;
 
 // The board's buffers.
+#[derive(Drop)]
 struct Board {
     slots: [u32; 1024],
     words: [u64; 4],

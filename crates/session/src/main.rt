@@ -16,6 +16,7 @@ const SEGMENT: u64 = 2048;
 const CALLS: u64 = 12;
 
 // The board's buffers.
+#[derive(Drop)]
 struct Board {
     slots: [u32; 1024],
     words: [u64; 4],

@@ -17,6 +17,7 @@ const LINE: usize = 256;
 const CALLS: u64 = 13;
 
 // The board's buffers, and its tag.
+#[derive(Drop)]
 struct Board {
     slots: [u32; 1024],
     words: [u64; 4],

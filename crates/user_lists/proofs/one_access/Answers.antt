@@ -1,11 +1,7 @@
 -- `one_access` is `fitting_access` of what the list's words say, packed.
-use Rattle.crossing.proofs.Fitting.{user-small}
 use Rattle.user_lists.proofs.Lists.{one-crosses}
 use borrow.Author.Rules.{rules}
 use Rattle.user_lists.proofs.one_access.Goals as goal
-
-pub packed_answer-requires : goal.packed_answer-requires
-packed_answer-requires c = search (rules, user-small)
 
 pub returns : goal.returns
 returns c = search (rules, one-crosses)
