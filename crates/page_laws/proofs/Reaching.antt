@@ -20,6 +20,7 @@ use Rattle.stores.specs.declared.Access.{Access}
 use Rattle.reach.specs.declared.Way.{Way}
 use Rattle.machine.specs.Accesses.{Reached, performed_on, accessed_by}
 use Rattle.machine.specs.Calls.{loaded_by}
+use Rattle.board.proofs.Homes.{home-parts}
 use Rattle.store_laws.proofs.Sim.{Homes, Sim}
 use Rattle.store_laws.proofs.Bytes.{number_same, length_digits, line-ext}
 use Rattle.store_laws.proofs.Held.{held_below_lem, holder-some, keeper-some, keeper-nothing}
@@ -118,7 +119,7 @@ module _ (s : Shape) (home : ℕ → Option Home) {x : Store} {m : List ℕ} (ho
       → Same s home a m (16 * p + off) (accessed_by s to name off a x (way_by x.records (home name) f))
   unfolding accessed_by way_by way_by_home
   accessed-by off a fit (Some i) h =
-      let q : (line_at x.records i).physical ≡ p = let d = held-home s home sim name i h in cc in
+      let q : (line_at x.records i).physical ≡ p = (home-parts (sym (held-home s home sim name i h) ∙ e)).0 in
       performed-same sim _ i off a (holder-some s x.records name i h).0 fit p q
   accessed-by off a fit None h =
       let y = sim-inserted homes sim to name p w low own h e in
