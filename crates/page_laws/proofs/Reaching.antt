@@ -29,7 +29,7 @@ use Rattle.store_laws.proofs.Steps.{sim-stored, sim-inserted, inserted-line, ins
 -- ---- look
 
 -- the current bytes of a physical line are the flat memory's
-module _ {s : Shape} {home : ℕ → (Option Home)} {x : Store} {m : List ℕ} (sim : Sim s home x m) (p : ℕ) (b : p < page_lines * s.frames) where
+module _ {s : Shape} {home : ℕ → Option Home} {x : Store} {m : List ℕ} (sim : Sim s home x m) (p : ℕ) (b : p < page_lines * s.frames) where
   look-by : (f : Option ℕ) → keeper_of s x.records p ≡ f → current_by x.cache x.memory p f ≡ line_of m p
   unfolding current_by
   look-by (Some i) h =
@@ -53,7 +53,7 @@ pub record Same (s : Shape) (home : ℕ → Option Home) (a : Access) (m : List 
   pub value : r.answer.value ≡ cond a.store 0 (number_in m at a.width)
   pub sim : Sim s home r.after (cond a.store (stored m at a.width a.value) m)
 
-module _ {s : Shape} {home : ℕ → (Option Home)} {x : Store} {m : List ℕ} (sim : Sim s home x m) (mark i off : ℕ) (a : Access)
+module _ {s : Shape} {home : ℕ → Option Home} {x : Store} {m : List ℕ} (sim : Sim s home x m) (mark i off : ℕ) (a : Access)
     (h : holds_at s x.records i ≡ true) (fit : off + a.width ≤ 16) where
   performed-value : (t : Bool) → a.store ≡ t
       → (performed_on i off a mark x).answer.value ≡ cond a.store 0 (number_in m (16 * (line_at x.records i).physical + off) a.width)
