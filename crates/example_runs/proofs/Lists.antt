@@ -16,7 +16,7 @@ use Rattle.line_bytes.specs.Bytes.{zeros}
 use Rattle.machine.specs.Boards.{Board, fits_board}
 use Rattle.machine.specs.Refusals.{by_table}
 use Rattle.machine.specs.Lists.{Asked, asks_from, answered, one_by_one, listed, list_done, user_accesses}
-use Rattle.promises.specs.Runs.{some_moment, Call, user, supervisor, Reply, reply, step, after}
+use Rattle.promises.specs.Runs.{some_moment, Call, user, supervisor, Reply, reply, step}
 use Rattle.promises.specs.Demand3.{holds, holds_for_writing, at_some_moment, replies_to, moves_of, handed_by}
 use Rattle.promises.specs.Brought.{bringing, brought_next, brought_at_some_moment, brought_without_others, brought_handed_lines, BroughtMovesAlike, brought_replies_to}
 use Rattle.promises.specs.Values.{as_user, asks}
@@ -27,7 +27,7 @@ use Rattle.example_runs.specs.Examples.{shape, start, load, save, run_a, run_b}
 use Rattle.example_runs.specs.Lists.{accesses, buffer, opened, turns_a, turns_b, ListExample}
 use Rattle.example_runs.proofs.Chains.{Ran, ended, ◌then◌, ran-after}
 use Rattle.example_runs.proofs.Examples.{length-memory, memory2, memory2-fits, ran-opening, after-opening, example3}
-use Rattle.example_runs.proofs.Values.{holding_four, fits-here, refuses, does-load-byte, does-save-byte}
+use Rattle.example_runs.proofs.Values.{holding_four, fifty, refuses, does-load-byte, does-save-byte}
 
 -- a list, call by call
 ran-list : (s : Shape) (b c : Board) (ks : List Asked) (l : List Answer) → Ran s b (map as_call ks) l c → one_by_one s b ks ≡ answered l c
@@ -36,9 +36,6 @@ ran-list s b c [] [] ended = refl
 ran-list s b c [] (a ∷ l) x = elim x [ ]
 ran-list s b c (k ∷ ks) [] x = elim x [ ]
 ran-list s b c (k ∷ ks) (a ∷ l) (◌then◌ {c = c₁} x r) = let e = x.does in rw (e, ran-list s c₁ c ks l r)
-
-fifty : fits_board shape (holding_four memory2 0 0 0 50) ≡ true
-fifty = fits-here memory2 memory2-fits 0 0 0 50
 
 ran-four : Ran shape (holding_four memory2 0 0 0 50) (load 0 3 ∷ save 0 1 3 300 ∷ save 0 1 3 255 ∷ load 0 3 ∷ [])
     (answer 0 50 1 ∷ answer 2 0 0 ∷ answer 0 0 1 ∷ answer 0 255 1 ∷ []) (holding_four memory2 0 0 0 255)

@@ -1,5 +1,5 @@
 -- The runs in which a page is handed over, call by call.
-use Rattle.std.specs.Prelude.{Some, None}
+use Rattle.std.proofs.lemmas.Option.{none-some}
 use Prim.Native.Nat.{ℕ}
 use mathlib.Core.Path.{◌≡◌, refl, sym, ap, ◌∙◌}
 use mathlib.Core.Bool.{Bool, true, false}
@@ -10,7 +10,6 @@ use lib.ListN.{length, get_or, set}
 use lib.Count.{ones, ones_in}
 use lib.Dec.{eqb}
 use borrow.Author.Tests.{eqb-true}
-use Rattle.board.specs.Homes.{at_line}
 use Rattle.board.specs.Answers.{answer, mark_of}
 use Rattle.board.specs.Lists.{part, splice}
 use Rattle.board.specs.Searches.{first}
@@ -431,10 +430,6 @@ later-needed = record {
 
 -- ---- boards that no calls reach
 
--- a name that maps to nothing has no physical line
-nowhere-line : {p : ℕ} {w : Bool} → None ≡ Some (at_line p w) → ⊥
-nowhere-line e = let z : ◌≡◌ {A = ℕ} 0 1 = cc in omega arith
-
 -- a board that is not sound and has a valid record: one that fits stays sound, and one that doesn't fit stays as it is
 is-wild : (c : Board) (i : ℕ) → (line_at c.store.records i).valid ≡ true → (Sound shape c → ⊥) → Wild c
 is-wild c i valid unsound = record { unsound = unsound; unreached = λ b x ks e. go b x ks e (fits_board shape b) refl }
@@ -477,9 +472,9 @@ does-old-then-new = record { does = rw length-memory }
 pub wild-moves : WildMoves
 unfolding lowest_from lowest_frame mapped_to direct_home home_by home_of line_at holds_line holds_at
 wild-moves = record {
-  wild_line_lem = is-wild wild_line 0 refl (λ x. nowhere-line (x.lines_mapped 0 refl));
-  wild_new_then_old = is-wild new_then_old 0 refl (λ x. nowhere-line (x.lines_mapped 0 refl));
-  wild_old_then_new = is-wild old_then_new 0 refl (λ x. nowhere-line (x.lines_mapped 1 refl));
+  wild_line_lem = is-wild wild_line 0 refl (λ x. none-some _ (x.lines_mapped 0 refl));
+  wild_new_then_old = is-wild new_then_old 0 refl (λ x. none-some _ (x.lines_mapped 0 refl));
+  wild_old_then_new = is-wild old_then_new 0 refl (λ x. none-some _ (x.lines_mapped 1 refl));
   answers_line = ran-answers line;
   answers_new_then_old = ran-answers first-new;
   answers_old_then_new = ran-answers first-old;

@@ -1,8 +1,9 @@
 -- The runs beside the order between strangers, computed, and their premises.
+use Rattle.std.proofs.lemmas.Bool.{and_left as and-fails}
 use Prim.{tt}
 use Prim.Native.Nat.{ℕ, zero, suc, ◌/◌, ◌≤◌, ◌<◌}
 use mathlib.Core.Path.{◌≡◌, refl, sym, ap, ◌∙◌}
-use mathlib.Core.Bool.{Bool, true, false, ◌&&◌, cond}
+use mathlib.Core.Bool.{Bool, true, false, cond}
 use mathlib.Core.List.{List, [], ◌∷◌, ◌++◌, map as each}
 use native.Mathlib.Omega.{arith}
 use lib.Count.{ones, ones_in}
@@ -59,9 +60,6 @@ module _ (test : ℕ → Bool) (none : test 0 ≡ false) where
       some-failing test (set (replicate 1024 0) 0 (slot_word 2048 true)) 1 512 (slot_word 2049 true) 512 h
       (some-outside test (replicate 1024 0) 1 0 (slot_word 2048 true) 512 (λ k b. omega arith) ∙ some-fresh test 1024 1 512 none)
 
-writes-fails : (segment own : ℕ) → eqb own segment ≡ false → (eqb own segment && true) ≡ false
-writes-fails segment own e = rw e
-
 own-strangers : Strangers own_slots 0 1
 own-strangers = record {
   differ = λ e. omega arith;
@@ -78,11 +76,11 @@ own-strangers = record {
 
     go : (segment : ℕ) (t : Bool) → eqb 2048 segment ≡ t → holds_for_writing own_slots 0 segment ≡ true → holds own_slots 1 segment ≡ true → ⊥
     go segment true t h g = clash _ g (second-fails (word_holds segment) refl (other 2048 2049 segment (λ e. omega arith) t))
-    go segment false t h g = clash _ h (first-fails (word_writes_to segment) refl (writes-fails segment 2048 t))
+    go segment false t h g = clash _ h (first-fails (word_writes_to segment) refl (and-fails (eqb 2048 segment) true t))
 
     back : (segment : ℕ) (t : Bool) → eqb 2049 segment ≡ t → holds_for_writing own_slots 1 segment ≡ true → holds own_slots 0 segment ≡ true → ⊥
     back segment true t h g = clash _ g (first-fails (word_holds segment) refl (other 2049 2048 segment (λ e. omega arith) t))
-    back segment false t h g = clash _ h (second-fails (word_writes_to segment) refl (writes-fails segment 2049 t))
+    back segment false t h g = clash _ h (second-fails (word_writes_to segment) refl (and-fails (eqb 2049 segment) true t))
 
 -- process 1 has 2048 too
 abbrev shared_slots : List ℕ

@@ -107,6 +107,9 @@ module _ (m : List ℕ) (length-is : length m ≡ 16384) where
   unfolding ones ones_in edition_holds matrices_of fits_shape by_table too_large aligned_to user_table user_access step rows_of applies_in
   lower-3 = record { low_applies = rw length-is; high_applies = rw length-is; in_order = omega arith; low_given = rw length-is }
 
+pub fifty : fits_board shape (holding_four memory2 0 0 0 50) ≡ true
+fifty = fits-here memory2 memory2-fits 0 0 0 50
+
 ran-values : Ran shape start run
     (six (answer 2 0 0 ∷ answer 2 0 0 ∷ answer 2 0 0 ∷ answer 2 0 0 ∷ answer 4 0 0 ∷ answer 4 0 0 ∷ answer 0 50 1 ∷ answer 0 0 1 ∷ answer 0 255 1 ∷ answer 0 0 1
     ∷ answer 0 65535 1 ∷ answer 0 0 1 ∷ answer 0 (2 ^ 32 - 1) 1 ∷ answer 0 0 1 ∷ answer 0 0 4 ∷ answer 2 0 0 ∷ answer 2 0 0 ∷ answer 2 0 0 ∷ answer 2 0 0 ∷ []))
@@ -129,9 +132,6 @@ ran-values =
     then refuses _ (as_supervisor (global 0xFFC00000000)) 1 256 full refl (omega arith)
     then ended)
   where
-    fifty : fits_board shape (holding_four memory2 0 0 0 50) ≡ true
-    fifty = fits-here memory2 memory2-fits 0 0 0 50
-
     full : fits_board shape (holding_four (stored memory2 0 1 255) 255 255 255 255) ≡ true
     full = fits-here (stored memory2 0 1 255) (length-stored memory2 0 1 255 ∙ memory2-fits) 255 255 255 255
 
@@ -141,6 +141,6 @@ values-example = record {
   answers_are = ran-answers ran-values;
   before_4 = rw after-opening (lower-4 memory2 memory2-fits);
   before_3 = rw (ran-after (ran-opening false (does-tag memory2 memory2-fits then ended))) (lower-3 memory2 memory2-fits);
-  fits = rw after-opening (fits-here memory2 memory2-fits 0 0 0 50);
+  fits = rw after-opening fifty;
   stores = let e = (does-save-byte memory2 memory2-fits).does in rw (after-opening, e);
 }

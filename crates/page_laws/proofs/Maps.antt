@@ -17,6 +17,7 @@ use Rattle.pages.specs.Pages.{frame_word, names_page, word_writes, lowest_from, 
 use Rattle.board.specs.Homes.{at_line}
 use Rattle.board.specs.declared.Shape.{Shape}
 use Rattle.board.proofs.Bools.{clash, and_left, and_right}
+use Rattle.board.proofs.Homes.{home-parts}
 use Rattle.pages.proofs.Frames.{mapped-ordinary, home_at, home-direct, direct-other, home-inside, if-line}
 use Rattle.machine.specs.Refusals.{is_mapped}
 use Rattle.machine.specs.Calls.{found_frame}
@@ -220,8 +221,9 @@ module _ (s : Shape) (words : List ℕ) (n p : ℕ) (w : Bool) where
   unfolding home_by
   homed-by (Some f) e h =
       let a = mapped-frame s words (n / page_lines) f e in
-      let q : f * page_lines + n % page_lines ≡ p = cc in
-      let r : word_writes (get_or words f 0) ≡ w = cc in
+      let z = home-parts h in
+      let q : f * page_lines + n % page_lines ≡ p = z.0 in
+      let r : word_writes (get_or words f 0) ≡ w = z.1 in
       let k : p / page_lines ≡ f = omega arith in
       mapped a.ordinary (omega arith) (rw k a.from) (rw k a.inside) (rw k a.page_is) (rw k a.odd) (rw k (sym r))
   homed-by None e h = homed-direct h
@@ -257,7 +259,7 @@ module _ (s : Shape) (words : List ℕ) (f w name p : ℕ) (x : Bool) (b : f < l
   home-by-set : (found : Option ℕ) → home_by s words name found ≡ Some (at_line p x) → p / page_lines ≢ f → home_by s (set words f w) name found ≡ Some (at_line p x)
   unfolding home_by direct_home free_frame
   home-by-set (Some g) e n =
-      let a : g * page_lines + name % page_lines ≡ p = cc in
+      let a : g * page_lines + name % page_lines ≡ p = (home-parts e).0 in
       let k : g ≢ f = omega arith in
       rw (get_or-set_other words f g w 0 k) e
   home-by-set None e n =

@@ -20,6 +20,7 @@ use Rattle.stores.specs.declared.Access.{Access}
 use Rattle.reach.specs.declared.Way.{Way}
 use Rattle.machine.specs.Accesses.{Reached, performed_on, accessed_by}
 use Rattle.machine.specs.Calls.{loaded_by}
+use Rattle.board.proofs.Homes.{home-parts}
 use Rattle.store_laws.proofs.Sim.{Homes, Sim}
 use Rattle.store_laws.proofs.Bytes.{number_same, length_digits, line-ext}
 use Rattle.store_laws.proofs.Held.{held_below_lem, holder-some, keeper-some, keeper-nothing}
@@ -28,7 +29,7 @@ use Rattle.store_laws.proofs.Steps.{sim-stored, sim-inserted, inserted-line, ins
 -- ---- look
 
 -- the current bytes of a physical line are the flat memory's
-module _ {s : Shape} {home : ℕ → (Option Home)} {x : Store} {m : List ℕ} (sim : Sim s home x m) (p : ℕ) (b : p < page_lines * s.frames) where
+module _ {s : Shape} {home : ℕ → Option Home} {x : Store} {m : List ℕ} (sim : Sim s home x m) (p : ℕ) (b : p < page_lines * s.frames) where
   look-by : (f : Option ℕ) → keeper_of s x.records p ≡ f → current_by x.cache x.memory p f ≡ line_of m p
   unfolding current_by
   look-by (Some i) h =
@@ -52,7 +53,7 @@ pub record Same (s : Shape) (home : ℕ → Option Home) (a : Access) (m : List 
   pub value : r.answer.value ≡ cond a.store 0 (number_in m at a.width)
   pub sim : Sim s home r.after (cond a.store (stored m at a.width a.value) m)
 
-module _ {s : Shape} {home : ℕ → (Option Home)} {x : Store} {m : List ℕ} (sim : Sim s home x m) (mark i off : ℕ) (a : Access)
+module _ {s : Shape} {home : ℕ → Option Home} {x : Store} {m : List ℕ} (sim : Sim s home x m) (mark i off : ℕ) (a : Access)
     (h : holds_at s x.records i ≡ true) (fit : off + a.width ≤ 16) where
   performed-value : (t : Bool) → a.store ≡ t
       → (performed_on i off a mark x).answer.value ≡ cond a.store 0 (number_in m (16 * (line_at x.records i).physical + off) a.width)
@@ -118,7 +119,7 @@ module _ (s : Shape) (home : ℕ → Option Home) {x : Store} {m : List ℕ} (ho
       → Same s home a m (16 * p + off) (accessed_by s to name off a x (way_by x.records (home name) f))
   unfolding accessed_by way_by way_by_home
   accessed-by off a fit (Some i) h =
-      let q : (line_at x.records i).physical ≡ p = let d = held-home s home sim name i h in cc in
+      let q : (line_at x.records i).physical ≡ p = (home-parts (sym (held-home s home sim name i h) ∙ e)).0 in
       performed-same sim _ i off a (holder-some s x.records name i h).0 fit p q
   accessed-by off a fit None h =
       let y = sim-inserted homes sim to name p w low own h e in

@@ -18,6 +18,7 @@ use Rattle.board.specs.Shapes.{max_frames}
 use Rattle.pages.specs.Pages.{frame_word, mapped_to, home_of, direct_page}
 use Rattle.board.specs.declared.Shape.{Shape}
 use Rattle.board.proofs.Bools.{clash, or-false}
+use Rattle.board.proofs.Homes.{home-parts}
 use Rattle.line_bytes.specs.Bytes.{number, digits, stored, line_of, zeroed_frame}
 use Rattle.lines.specs.Records.{line_at, no_line}
 use Rattle.stores.specs.Stores.{Store, store}
@@ -128,7 +129,7 @@ module _ (s : Shape) (words : List ℕ) (x : Store) (m : List ℕ) (sim : Sim s 
         let q = mapped-frame s words page f found in
         let was = mapped-home s words (line j).name f (rw n found) in
         let old = sim.maps j h in
-        let p : (line j).physical ≡ f * page_lines + (line j).name % page_lines = cc in
+        let p : (line j).physical ≡ f * page_lines + (line j).name % page_lines = (home-parts (sym old ∙ was)).0 in
         let hit = mapped-hit s words page f (frame_word page write) q.inside (frame-word-names page write) found in
         let new = mapped-home s words' (line j).name f (rw n hit) in
         rw p (rw (get_or-set_same words f (frame_word page write) 0 q.inside, frame-word-writes page write) at new)

@@ -14,7 +14,6 @@ use Rattle.address.specs.declared.Global.{Global}
 use Rattle.address.specs.declared.Physical.{Physical}
 use Rattle.address.specs.declared.Region.{Region}
 use Rattle.address.specs.declared.Region.TheVariants.{Uncached, Cached, PageTable, Ordinary}
-use Rattle.board.specs.Homes.{at_line}
 use Rattle.board.specs.Answers.{mark_of}
 use Rattle.board.specs.declared.Shape.{Shape}
 use Rattle.board.specs.declared.Home.{Home}
@@ -323,7 +322,7 @@ others-zero s b (supervisor (unmap page)) h = zero-mark b _ _ refl
 others-zero s b (supervisor (protect page write)) h = zero-mark b _ _ refl
 others-zero s b (supervisor (move page new)) h = zero-mark b _ _ refl
 others-zero s b (supervisor flush_all) h = zero-mark b _ _ refl
-others-zero s b (supervisor (tag name)) h = zero-mark b _ _ refl
+others-zero s b (supervisor (tag _)) h = zero-mark b _ _ refl
 others-zero s b (supervisor (load_and_map line)) h = zero-mark b _ _ refl
 others-zero s b (supervisor drop_tag) h = zero-mark b _ _ refl
 
@@ -344,9 +343,9 @@ module _ (s : Shape) (b : Board) (cache memory : List ℕ) (c : length cache ≡
   module _ (a : Access) where
     way-mark : (to name offset : ℕ) (way : Option Way) → (accessed_by s to name offset a other.store way).answer.mark ≡ (accessed_by s to name offset a b.store way).answer.mark
     unfolding accessed_by performed_on
-    way-mark to name offset (Some (Held i write)) = refl
-    way-mark to name offset (Some (InMemory line write)) = refl
-    way-mark to name offset None = refl
+    way-mark to _ offset (Some (Held i write)) = refl
+    way-mark to _ offset (Some (InMemory line write)) = refl
+    way-mark to _ offset None = refl
 
     line-mark : (g : Global) → (accessed s b.words g a other.store b.uses).reached.answer.mark ≡ (accessed s b.words g a b.store b.uses).reached.answer.mark
     unfolding accessed
@@ -376,7 +375,7 @@ module _ (s : Shape) (b : Board) (cache memory : List ℕ) (c : length cache ≡
   same-mark (supervisor (protect page write)) = zero-marks _ _ refl _ _ refl
   same-mark (supervisor (move page new)) = zero-marks _ _ refl _ _ refl
   same-mark (supervisor flush_all) = zero-marks _ _ refl _ _ refl
-  same-mark (supervisor (tag name)) = zero-marks _ _ refl _ _ refl
+  same-mark (supervisor (tag _)) = zero-marks _ _ refl _ _ refl
   same-mark (supervisor (load_and_map line)) = zero-marks _ _ refl _ _ refl
   same-mark (supervisor drop_tag) = zero-marks _ _ refl _ _ refl
 

@@ -1,5 +1,6 @@
 -- Move hands a page over: its table, what it makes of the page map, and what look shows. Stands on Maps, Leaving and demand 2.
 use Rattle.std.specs.Prelude.{Some, None}
+use Rattle.std.proofs.lemmas.Option.{none-some}
 use Prim.Native.Nat.{ℕ, ◌+◌, ◌*◌, ◌/◌, ◌<◌}
 use mathlib.Core.Logic.{◌≢◌}
 use mathlib.Core.Path.{◌≡◌, refl, sym, ap, ◌∙◌}
@@ -148,9 +149,7 @@ module _ (s : Shape) (b : Board) (page new : ℕ) where
 
     -- the two pages are not one
     pages-differ : page ≢ new
-    pages-differ e = let x = old-found in let y = new-free in
-        let z : Some frame ≡ None = sym x ∙ rw e y in
-        absurd (let w : ◌≡◌ {A = ℕ} 0 1 = cc in omega arith)
+    pages-differ e = let x = old-found in let y = new-free in none-some frame (sym (rw e y) ∙ x)
 
     old-gone : PagesOnce s b.words → mapped_to s (set b.words frame word) page ≡ None
     old-gone once =

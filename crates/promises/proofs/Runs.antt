@@ -1,7 +1,8 @@
 -- Runs of any machine: one run after another, what a run keeps, moments, and two runs side by side. By the definitions.
 use mathlib.Core.Path.{◌≡◌, refl, ap, ap₂}
-use mathlib.Core.Bool.{Bool, true, false, ◌||◌}
+use mathlib.Core.Bool.{Bool, true, ◌||◌}
 use mathlib.Core.List.{List, [], ◌∷◌, ◌++◌}
+use Rattle.std.proofs.Math.Bool.{or_self, or_self_left}
 use Rattle.board.proofs.Bools.{or_left, or_right}
 use Rattle.promises.specs.Runs.{ran, gained, some_moment}
 
@@ -35,18 +36,10 @@ module _ {X T : Type 0} (next : X → T → X) where
     unfolding some_moment
     moment-later x k ks h = or_right (test x) (some_moment test next (next x k) ks) h
 
-    or_self : (a : Bool) → (a || a) ≡ a
-    or_self true = refl
-    or_self false = refl
-
-    or-twice : (a b : Bool) → (a || (a || b)) ≡ (a || b)
-    or-twice true b = refl
-    or-twice false b = refl
-
     pub moment-again : (x : X) (ks : List T) → (test x || some_moment test next x ks) ≡ some_moment test next x ks
     unfolding some_moment
     moment-again x [] = or_self (test x)
-    moment-again x (k ∷ ks) = or-twice (test x) (some_moment test next (next x k) ks)
+    moment-again x (k ∷ ks) = or_self_left (test x) (some_moment test next (next x k) ks)
 
 -- two machines that take the same turns. R relates their states, with the turns that are still to come
 module _ {X Y T : Type 0} (next : X → T → X) (beside : Y → T → Y) (R : X → Y → List T → Type 0)

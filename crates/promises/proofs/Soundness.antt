@@ -1,12 +1,12 @@
 -- Sound boards and the boards that stand for a flat memory are the same; a fresh board is one.
 -- Stands on Sim, Bytes, Held, Zeroed and the set laws of `lines`.
 use Rattle.std.specs.Prelude.{Option, Some, None}
-use Prim.Native.Nat.{ℕ, ◌+◌, ◌*◌, ◌<◌}
+use Prim.Native.Nat.{ℕ, ◌+◌, ◌*◌}
 use mathlib.Core.Path.{◌≡◌, refl, sym, ap, ◌∙◌}
 use mathlib.Core.Bool.{true}
 use mathlib.Core.List.{List}
 use native.Mathlib.Omega.{arith}
-use lib.ListN.{length, get_or, replicate, length-replicate, get_or-replicate}
+use lib.ListN.{get_or, length-replicate, get_or-replicate}
 use Rattle.address.specs.Layout.{process_slots}
 use Rattle.pages.specs.Pages.{home_of, names_page}
 use Rattle.board.specs.Shapes.{matrices_of}
@@ -96,10 +96,6 @@ pub fresh-empty : (s : Shape) (b : Board) → Fresh b → (i : ℕ) → holds_at
 unfolding holds_at holds_line
 fresh-empty s b x i h = clash _ (and_left (line_at b.store.records i).valid _ h) (x.no_line i)
 
--- each of a list's elements, where all are alike
-all_alike : {A : Type 0} (n i : ℕ) (a d : A) → i < length (replicate n a) → get_or (replicate n a) i d ≡ a
-all_alike n i a d h = get_or-replicate n i a d (rw (length-replicate n a) at h)
-
 -- the board of zeros is one
 pub fresh-zeros : (s : Shape) (cache memory : List ℕ) → Fresh (fresh s cache memory)
 unfolding line_at
@@ -107,7 +103,7 @@ fresh-zeros s cache memory = record {
   no_slot = λ i. zeros-at (s.processes * process_slots) i;
   no_word = λ f. zeros-at s.frames f;
   no_line = λ i. rw (zeros-at (2 * s.lines) (2 * i + 1));
-  no_use = λ place h. all_alike (matrices_of s) place _ _ h;
+  no_use = λ place h. get_or-replicate (matrices_of s) place _ _ (rw length-replicate at h);
   no_tag = refl;
 }
 

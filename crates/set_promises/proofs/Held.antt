@@ -1,5 +1,6 @@
 -- A record that holds a line after a call held it before, or is the one that the call uses; and the set of a used record has a matrix.
 use Rattle.std.specs.Prelude.{Option, Some, None}
+use Rattle.std.proofs.lemmas.Option.{none-some}
 use Prim.Native.Nat.{ℕ, ◌*◌, ◌<◌}
 use mathlib.Core.Path.{◌≡◌, ◌∙◌, refl, sym}
 use mathlib.Core.Bool.{Bool, true, false, ◌&&◌, cond}
@@ -110,7 +111,7 @@ module _ (s : Shape) (b : Board) where
   inside to name e w p i q = let z : i ≡ to = cc in rw (z, e w) (mod-lt name p)
 
   inside-none : Inside None
-  inside-none w p i q = absurd (let z : ◌≡◌ {A = ℕ} 0 1 = cc in omega arith)
+  inside-none w p i q = absurd (none-some i q)
 
   -- what a call leaves that uses this record if it is done
   record Leaves (would : Option ℕ) (o : Outcome) : Type 0 where
@@ -194,7 +195,7 @@ module _ (s : Shape) (b : Board) where
         where
           go : (t : Bool) → fits_board s b ≡ t → fits_board s b ≡ true
           go true e = e
-          go false e = let v = rw (unfit-call s b b.store.memory (record { no = e; same_length = refl }) k).0 at u in absurd (let z : ◌≡◌ {A = ℕ} 0 1 = cc in omega arith)
+          go false e = absurd (none-some i (rw (unfit-call s b b.store.memory (record { no = e; same_length = refl }) k).0 at u))
 
       used-would : would_use s b k ≡ Some i
       unfolding used_by
@@ -202,7 +203,7 @@ module _ (s : Shape) (b : Board) where
         where
           go : (t : Bool) → cond t (would_use s b k) None ≡ Some i → would_use s b k ≡ Some i
           go true e = e
-          go false e = absurd (let z : ◌≡◌ {A = ℕ} 0 1 = cc in omega arith)
+          go false e = absurd (none-some i e)
 
       pub used-in : s.ways ≡ set_lines → set_at s i < length b.uses
       used-in four =

@@ -1,6 +1,7 @@
 -- The record that a call uses holds the call's own line after it; what the other records hold they held before (`Held.antt`).
 use Rattle.std.specs.Prelude.{Option, Some, None}
-use Prim.Native.Nat.{ℕ, ◌*◌, ◌%◌, ◌<◌}
+use Rattle.std.proofs.lemmas.Option.{none-some}
+use Prim.Native.Nat.{ℕ, ◌+◌, ◌*◌, ◌%◌, ◌≤◌, ◌<◌}
 use mathlib.Core.Path.{◌≡◌, ◌∙◌, refl}
 use mathlib.Core.Bool.{Bool, true, false, cond}
 use mathlib.Core.List.{List}
@@ -14,22 +15,21 @@ use Rattle.address.specs.declared.Effective.{Effective}
 use Rattle.address.specs.declared.Global.{Global}
 use Rattle.address.specs.declared.Region.{Region}
 use Rattle.address.specs.declared.Region.TheVariants.{Uncached, Cached, PageTable, Ordinary}
-use Rattle.board.specs.Homes.{at_line}
 use Rattle.board.specs.declared.Shape.{Shape}
 use Rattle.board.specs.declared.Home.{Home}
 use Rattle.board.proofs.Bools.{cond_both}
 use Rattle.pages.specs.Pages.{home_of}
-use Rattle.lines.specs.Records.{line_at, new_line, changed_line}
+use Rattle.lines.specs.Records.{line_at, changed_line}
 use Rattle.lines.specs.Holds.{place_of, set_at, holds_line, holds_at, holds_name, holder_of}
 use Rattle.lines.specs.Victims.{victim_of, record_by, room_by}
 use Rattle.lines.proofs.Records.{line-put-same}
 use Rattle.lines.proofs.Sets.{ways_pos, sets_pos, victim-set, victim-inside}
-use Rattle.stores.specs.Stores.{Store, inserted, noted, filled, performed_at, Performed}
+use Rattle.stores.specs.Stores.{Store, inserted, performed_at, Performed}
 use Rattle.stores.specs.declared.Access.{Access}
 use Rattle.reach.specs.Reach.{way_by_home, way_by, way_of}
 use Rattle.reach.specs.declared.Way.{Way}
-use Rattle.store_laws.proofs.Held.{held-line, held-listed, holds-new, holder-some}
-use Rattle.store_laws.proofs.Steps.{written-records}
+use Rattle.store_laws.proofs.Held.{held-line, held-listed, holder-some}
+use Rattle.store_laws.proofs.Steps.{inserted-says, inserted-holds}
 use Rattle.machine.specs.Boards.{Board, Outcome, fits_board, refused}
 use Rattle.machine.specs.Refusals.{Row, by_table}
 use Rattle.machine.specs.Rising.{Rises}
@@ -64,25 +64,16 @@ module _ (s : Shape) (name i : ℕ) where
       cond_both (λ (p : Performed). holds_name s p.records name i ≡ true) a.store _ _ (named _ (held-line s _ i _ put ∙ h) (rw put e)) (named r h e)
 
   -- a line that comes into it
-  module _ (p : ℕ) (w : Bool) (x : Store) (c : length x.records ≡ 2 * s.lines) (low : i < s.lines) (own : set_at s i ≡ place_of s name) (inside : p < page_lines * s.frames) where
-    inserted-says : line_at (inserted s i name p w x).records i ≡ new_line name p w
-    unfolding inserted noted filled
-    inserted-says = rw (written-records s i x) (line-put-same x.records i (new_line name p w) (omega arith))
-
-    inserted-holds : holds_at s (inserted s i name p w x).records i ≡ true
-    inserted-holds = held-line s (inserted s i name p w x).records i (new_line name p w) inserted-says ∙ holds-new s i name p w own inside
-
-    inserted-named : holds_name s (inserted s i name p w x).records name i ≡ true
-    inserted-named = named (inserted s i name p w x).records inserted-holds (rw inserted-says refl)
+  inserted-named : (p : ℕ) (w : Bool) (x : Store) → 2 * i + 2 ≤ length x.records → set_at s i ≡ place_of s name → p < page_lines * s.frames
+      → holds_name s (inserted s i name p w x).records name i ≡ true
+  inserted-named p w x room own inside =
+      named (inserted s i name p w x).records (inserted-holds s i name p w x room own inside) (rw (inserted-says s i name p w x room) refl)
 
 -- ---- each call that uses a record
 
-no_record : (i : ℕ) → None ≡ Some i → ⊥
-no_record i e = absurd (let z : ◌≡◌ {A = ℕ} 0 1 = cc in omega arith)
-
 never : (i : ℕ) (t : Bool) → cond t None None ≡ Some i → ⊥
-never i true e = no_record i e
-never i false e = no_record i e
+never i true e = none-some i e
+never i false e = none-some i e
 
 module _ (s : Shape) (b : Board) where
   -- the record that an outcome uses, if it is done, holds the line of this name
@@ -95,7 +86,7 @@ module _ (s : Shape) (b : Board) where
     where
       go : (o : Outcome) → Tabled (refused b) 1 rows d o → Lands name would o
       go o (passed _ p) = h p
-      go o (stopped n l _ _) = λ i e. absurd (no_record i (rw (ne_eqb n 0 (omega arith)) at e))
+      go o (stopped n l _ _) = λ i e. absurd (none-some i (rw (ne_eqb n 0 (omega arith)) at e))
 
 module _ (s : Shape) (b : Board) (fits : fits_board s b ≡ true) where
   abbrev victim : ℕ → ℕ
@@ -108,8 +99,11 @@ module _ (s : Shape) (b : Board) (fits : fits_board s b ≡ true) where
     victim-low : victim name < s.lines
     victim-low = victim-inside s b.uses b.store.records name (ways_pos s (board-lined s b fits)) (sets_pos s (board-lined s b fits))
 
+    victim-room : 2 * victim name + 2 ≤ length b.store.records
+    victim-room = omega (arith, victim-low, (board-shaped s b fits).records_are)
+
     victim-named : (p : ℕ) (w : Bool) → p < page_lines * s.frames → holds_name s (inserted s (victim name) name p w b.store).records name (victim name) ≡ true
-    victim-named p w h = inserted-named s name (victim name) p w b.store (board-shaped s b fits).records_are victim-low victim-own h
+    victim-named p w h = inserted-named s name (victim name) p w b.store victim-room victim-own h
 
   module _ (g : Global) (a : Access) where
     abbrev to : ℕ
@@ -124,11 +118,11 @@ module _ (s : Shape) (b : Board) (fits : fits_board s b ≡ true) where
         let q : i ≡ to = cc in
         let inside = (board-homes s b fits).inside (name_of g) hm.line hm.write h in
         let c = (board-shaped s b fits).records_are in
-        let l = victim-low (name_of g) in
+        let l = victim-room (name_of g) in
         let o = victim-own (name_of g) in
         rw q (performed-named s (name_of g) to _ a (inserted s to (name_of g) hm.line hm.write b.store).records _ ((sizes-inserted s to (name_of g) hm.line hm.write b.store).records ∙ c)
-        (inserted-holds s (name_of g) to hm.line hm.write b.store c l o inside) (rw (inserted-says s (name_of g) to hm.line hm.write b.store c l o inside) refl))
-    lands-home None h i e = absurd (no_record i e)
+        (inserted-holds s to (name_of g) hm.line hm.write b.store l o inside) (rw (inserted-says s to (name_of g) hm.line hm.write b.store l) refl))
+    lands-home None h i e = absurd (none-some i e)
 
     lands-found : (found : Option ℕ) → holder_of s b.store.records (name_of g) ≡ found
         → Lands s b (name_of g) (Some (record_by to found)) (by (way_by b.store.records (home_of s b.words (name_of g)) found))
@@ -147,13 +141,13 @@ module _ (s : Shape) (b : Board) (fits : fits_board s b ≡ true) where
     unfolding supervisor_done reached_in
     lands-region Uncached i e = absurd (never i (eqb (memory_access (physical_of g) a b.store).answer.number 0) e)
     lands-region Cached i e = lands-accessed i e
-    lands-region PageTable i e = absurd (no_record i e)
+    lands-region PageTable i e = absurd (none-some i e)
     lands-region Ordinary i e = lands-accessed i e
 
   lands-loaded : (name p : ℕ) (w : Bool) → p < page_lines * s.frames → (found : Option ℕ) (i : ℕ) → room_by (victim name) found ≡ Some i
       → holds_name s (loaded_by s (victim name) name p w b.store found).records name i ≡ true
   unfolding room_by loaded_by
-  lands-loaded name p w h (Some j) i e = absurd (no_record i e)
+  lands-loaded name p w h (Some j) i e = absurd (none-some i e)
   lands-loaded name p w h None i e = let q : i ≡ victim name = cc in rw q (victim-named name p w h)
 
   -- ---- each call

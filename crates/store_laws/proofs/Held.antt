@@ -88,7 +88,7 @@ module _ (s : Shape) (r : List ℕ) (i : ℕ) where
       go true t = ltb-true _ _ t
       go false t = let d = ltb-false i n t in clash _ h (past-none (omega arith))
 
-pub held_below_lem : {s : Shape} {home : ℕ → (Option Home)} {x : Store} {m : List ℕ} → Sim s home x m → (i : ℕ)
+pub held_below_lem : {s : Shape} {home : ℕ → Option Home} {x : Store} {m : List ℕ} → Sim s home x m → (i : ℕ)
     → holds_at s x.records i ≡ true → i < s.lines
 held_below_lem {s} {x = x} sim i h = held-listed s x.records i s.lines sim.record_count h
 

@@ -21,13 +21,13 @@ use Rattle.board.proofs.Lists.{length-splice}
 use Rattle.line_bytes.specs.Bytes.{line_of, with_line}
 use Rattle.lines.specs.Records.{word_of, line_at, put_line, no_line, new_line, changed_line}
 use Rattle.stores.specs.Stores.{Store, store, written_back, filled, noted, inserted, dropped}
-use Rattle.lines.specs.Holds.{place_of, holds_line, holds_at, holder_of}
+use Rattle.lines.specs.Holds.{place_of, set_at, holds_line, holds_at, holder_of}
 use Rattle.lines.specs.declared.Line.{Line}
 use Rattle.line_bytes.proofs.Bytes.{length-line}
 use Rattle.lines.proofs.Records.{length-put, line-put-same, line-put-other}
 use Rattle.store_laws.proofs.Sim.{byte, Homes, Sim}
 use Rattle.store_laws.proofs.Bytes.{splice-apart, splice-match, copied_at, copied-other}
-use Rattle.store_laws.proofs.Held.{holds-none, holds-new, held_in, held-put-same, held-put-other, held_below_lem, holder-nothing}
+use Rattle.store_laws.proofs.Held.{holds-none, holds-new, held_in, held-line, held-put-same, held-put-other, held_below_lem, holder-nothing}
 
 -- ---- one record changed: what has to be shown of the others, of this one, and of the rest
 
@@ -44,7 +44,7 @@ record KeptByte (x : Store) (j p k : ℕ) (cache memory m m' : List ℕ) : Type 
   in_memory : byte memory p k ≡ byte x.memory p k
   in_flat : byte m' p k ≡ byte m p k
 
-module _ {s : Shape} {home : ℕ → (Option Home)} {x : Store} {m : List ℕ} (sim : Sim s home x m)
+module _ {s : Shape} {home : ℕ → Option Home} {x : Store} {m : List ℕ} (sim : Sim s home x m)
     (i : ℕ) (l : Line) (cache memory m' : List ℕ) (low : i < s.lines) where
   abbrev after : List ℕ
   after = put_line x.records i l
@@ -168,7 +168,7 @@ unfolding put_line
 put-put r i l n =
     rw (set_comm (set r (2 * i) l.name) (2 * i + 1) (2 * i) (word_of l) n.name (λ e. omega arith)) (simp set-set)
 
-module _ {s : Shape} {home : ℕ → (Option Home)} {x : Store} {m : List ℕ} (sim : Sim s home x m) where
+module _ {s : Shape} {home : ℕ → Option Home} {x : Store} {m : List ℕ} (sim : Sim s home x m) where
   -- no record holds physical line q: not i, and none of the others
   none-holds : (i q : ℕ) → ((j : ℕ) → j ≢ i → holds_at s x.records j ≡ true → (line_at x.records j).physical ≢ q)
       → (holds_at s x.records i ≡ true → (line_at x.records i).physical ≢ q)
@@ -274,7 +274,16 @@ inserted-unheld : (s : Shape) (i name p : ℕ) (w : Bool) (x : Store) → holds_
 unfolding inserted
 inserted-unheld s i name p w x h = rw (written-unheld s i x h) refl
 
-module _ {s : Shape} {home : ℕ → (Option Home)} {x : Store} {m : List ℕ} (homes : Homes s home) (sim : Sim s home x m)
+-- the record that a line comes into, of any store
+module _ (s : Shape) (i name p : ℕ) (w : Bool) (x : Store) (room : 2 * i + 2 ≤ length x.records) where
+  pub inserted-says : line_at (inserted s i name p w x).records i ≡ new_line name p w
+  unfolding inserted noted filled
+  inserted-says = rw written-records (line-put-same x.records i (new_line name p w) room)
+
+  pub inserted-holds : set_at s i ≡ place_of s name → p < page_lines * s.frames → holds_at s (inserted s i name p w x).records i ≡ true
+  inserted-holds own inside = held-line s (inserted s i name p w x).records i (new_line name p w) inserted-says ∙ holds-new s i name p w own inside
+
+module _ {s : Shape} {home : ℕ → Option Home} {x : Store} {m : List ℕ} (homes : Homes s home) (sim : Sim s home x m)
     (i name p : ℕ) (w : Bool) (b : i < s.lines) (stands : i / s.ways ≡ place_of s name) (miss : holder_of s x.records name ≡ None)
     (h : home name ≡ Some (at_line p w)) where
   room : 2 * i + 2 ≤ length x.records
@@ -306,10 +315,7 @@ module _ {s : Shape} {home : ℕ → (Option Home)} {x : Store} {m : List ℕ} (
       go false e = rw (inserted-unheld s i name p w x e) (sim-fill sim homes i name p w b e h alone)
 
   pub inserted-line : line_at (inserted s i name p w x).records i ≡ new_line name p w
-  unfolding inserted noted filled
-  inserted-line = rw written-records (line-put-same x.records i (new_line name p w) room)
+  inserted-line = inserted-says s i name p w x room
 
   pub inserted-held : holds_at s (inserted s i name p w x).records i ≡ true
-  unfolding inserted noted filled
-  inserted-held =
-      rw written-records (held-put-same s x.records i (new_line name p w) room ∙ holds-new s i name p w stands (homes.inside name p w h))
+  inserted-held = inserted-holds s i name p w x room stands (homes.inside name p w h)
