@@ -97,23 +97,29 @@ fn with_processes(rt: &impl Print, processes: usize, slots: &mut [u32]) -> io::R
     Ok(())
 }
 
+fn line_counts(rt: &impl Print, records: &[u64], cache: &[u8]) -> io::Result<()> {
+    with_lines(rt, 3, records, cache)?;
+    with_lines(rt, 0, records, cache)?;
+    with_lines(rt, MOST_LINES, records, cache)?;
+    with_lines(rt, OVER_LINES, records, cache)
+}
+
+fn process_counts(rt: &impl Print, slots: &mut [u32]) -> io::Result<()> {
+    with_processes(rt, MOST_PROCESSES, slots)?;
+    with_processes(rt, OVER_PROCESSES, slots)
+}
+
 // Buffers for the largest counts of lines.
 fn run_lines(rt: &impl Print) -> io::Result<()> {
     let records: [u64; RECORD_WORDS * OVER_LINES] = [0; RECORD_WORDS * OVER_LINES];
     let cache: [u8; LINE_BYTES * OVER_LINES] = [0; LINE_BYTES * OVER_LINES];
-    for lines in [3, 0, MOST_LINES, OVER_LINES] {
-        with_lines(rt, lines, &records, &cache)?;
-    }
-    Ok(())
+    line_counts(rt, &records, &cache)
 }
 
 // And of processes.
 fn run_processes(rt: &impl Print) -> io::Result<()> {
     let mut slots: [u32; PROCESS_SLOTS * OVER_PROCESSES] = [0; PROCESS_SLOTS * OVER_PROCESSES];
-    for processes in [MOST_PROCESSES, OVER_PROCESSES] {
-        with_processes(rt, processes, &mut slots)?;
-    }
-    Ok(())
+    process_counts(rt, &mut slots)
 }
 
 fn main(rt: HostRuntime) -> io::Result<()> {

@@ -1,9 +1,0 @@
--- `write_part` goes from byte to byte of the part.
-use Rattle.std.proofs.Common.{length, ◌-◌, ◌≤◌}
-use Rattle.looks.proofs.write_part.Given as goal
-
-abbrev pub invariant-loop-i : goal.invariant-loop-i
-invariant-loop-i g l = l.i ≤ length l.part
-
-abbrev pub decreases-loop-i : goal.decreases-loop-i
-decreases-loop-i g l = length l.part - l.i
