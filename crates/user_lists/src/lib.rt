@@ -66,6 +66,7 @@ fn one_access(
 }
 
 // Does all accesses of a list, each on what the one before it left, and puts each answer at its place.
+// (By its number: of what is written through `iter_mut().zip(..)` no proof knows anything afterwards.)
 fn all_accesses(
     s: Shape,
     slots: &[u32],
