@@ -3,23 +3,17 @@
 
 ghost use Rattle.std.specs.Prelude.{◌≡◌, ◌+◌, ◌*◌, ◌/◌, ◌≤◌, ◌<◌, length, get_or};
 ghost use Rattle.address.specs.Layout.{page_bytes, line_bytes};
-ghost use Rattle.line_bytes.specs.Bytes.{number, stored, line_of, with_line, zeros, zeroed_frame};
+ghost use Rattle.line_bytes.specs.Bytes.{number, stored, line_of, with_line, zeroed_frame};
 ghost use Rattle.line_bytes.specs.Premises.{Width, InWord};
 
 use board::{LINE_BYTES, PAGE_BYTES};
-
-fn wide(x: u8) -> u32
-    ensures { (result ≡ x) × (result < 256) }
-{
-    x as u32
-}
 
 // The number of two bytes. The last fact is for who takes the two apart again.
 fn pair(bytes: &[u8], at: usize) -> u32
     requires { at + 2 ≤ length bytes.now }
     ensures { (result ≡ number bytes.now at 2) × (result < 65536) × (get_or bytes.now (at + 1) 0 < 256) }
 {
-    wide(bytes[at]) * 256 + wide(bytes[at + 1])
+    u32::from(bytes[at]) * 256 + u32::from(bytes[at + 1])
 }
 
 // The number in `width` bytes, the most significant first: by the aligned word that they lie in, so that every width costs the
@@ -54,18 +48,6 @@ pub fn store_bytes(bytes: &mut [u8], at: usize, width: u32, value: u32)
     bytes[at + 3] = (value % 256) as u8;
 }
 
-// Copies one line's sixteen bytes.
-fn copy_sixteen(dst: &mut [u8], src: &[u8])
-    requires { (length dst.old ≡ line_bytes) × (length src.now ≡ line_bytes) }
-    ensures { dst.new ≡ src.now }
-{
-    let mut i: usize = 0;
-    while i < 16 {
-        dst[i] = src[i];
-        i += 1;
-    }
-}
-
 // Copies line `j` of `src` over line `i` of `dst`, by a local so that it is one move of sixteen bytes.
 pub fn copy_line(dst: &mut [u8], i: usize, src: &[u8], j: usize)
     requires { (line_bytes * i + line_bytes ≤ length dst.old) × (line_bytes * j + line_bytes ≤ length src.now) }
@@ -74,19 +56,8 @@ pub fn copy_line(dst: &mut [u8], i: usize, src: &[u8], j: usize)
     let a = LINE_BYTES * i;
     let b = LINE_BYTES * j;
     let mut line: [u8; 16] = [0; 16];
-    copy_sixteen(&mut line, &src[b..b + LINE_BYTES]);
-    copy_sixteen(&mut dst[a..a + LINE_BYTES], &line);
-}
-
-// Fills bytes with zeros.
-fn zero(bytes: &mut [u8])
-    ensures { bytes.new ≡ zeros (length bytes.old) }
-{
-    let mut i: usize = 0;
-    while i < bytes.len() {
-        bytes[i] = 0;
-        i += 1;
-    }
+    line.copy_from_slice(&src[b..b + LINE_BYTES]);
+    dst[a..a + LINE_BYTES].copy_from_slice(&line);
 }
 
 // Fills a frame with zeros.
@@ -95,5 +66,5 @@ pub fn zero_frame(memory: &mut [u8], frame: usize)
     ensures { memory.new ≡ zeroed_frame memory.old frame }
 {
     let a = PAGE_BYTES * frame;
-    zero(&mut memory[a..a + PAGE_BYTES]);
+    memory[a..a + PAGE_BYTES].fill(0);
 }
