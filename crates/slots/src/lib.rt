@@ -41,7 +41,7 @@ fn slots_of(slots: &[u32], process: usize) -> Slots
     ensures { result.words ≡ part slots.now (slot_index process 0) process_slots }
 {
     let a = process * PROCESS_SLOTS;
-    let mut words: [u32; PROCESS_SLOTS] = [0; PROCESS_SLOTS];
+    let mut words = [0; PROCESS_SLOTS];
     words.copy_from_slice(&slots[a..a + PROCESS_SLOTS]);
     Slots { words }
 }
