@@ -43,9 +43,7 @@ pub fn place_of(sets: usize, name: u64) -> usize
     requires { ones sets ≡ 1 }
     ensures { (result ≡ name % sets) × (result < sets) }
 {
-    let bits = usize::trailing_zeros(sets);
-    let n = name as usize;
-    n % (1 << bits)
+    name as usize % (1 << sets.trailing_zeros())
 }
 
 // How many sets there are.
@@ -86,8 +84,7 @@ fn name_place(s: Shape, name: u64) -> usize
     requires { Lined s }
     ensures { (result ≡ place_of s name) × (result < sets_of s) }
 {
-    let sets = sets_of(s);
-    place_of(sets, name)
+    place_of(sets_of(s), name)
 }
 
 // Reads record `i`.
@@ -111,11 +108,11 @@ pub fn put_line(records: &mut [u64], i: usize, l: Line)
     requires { (2 * i + 2 ≤ length records.old) × (l.physical < 2 ^ 61) }
     ensures { records.new ≡ put_line records.old i l }
 {
-    let c = board::bit_of(l.changed);
-    let w = board::bit_of(l.write);
-    let v = board::bit_of(l.valid);
     records[RECORD_WORDS * i] = l.name;
-    records[RECORD_WORDS * i + 1] = l.physical * 8 + c * 4 + w * 2 + v;
+    records[RECORD_WORDS * i + 1] = l.physical * 8
+        + u64::from(l.changed) * 4
+        + u64::from(l.write) * 2
+        + u64::from(l.valid);
 }
 
 // Record `i`, with these fields, holds a line.
@@ -123,8 +120,7 @@ pub fn holds(s: Shape, i: usize, l: Line) -> bool
     requires { Lined s }
     ensures { result ≡ holds_line s i l }
 {
-    let name = l.name;
-    let place = name_place(s, name);
+    let place = name_place(s, l.name);
     let own = set_at(s, i);
     let end = PAGE_LINES * s.frames;
     l.valid & ((own == place) & (l.physical < end as u64))

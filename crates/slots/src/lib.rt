@@ -20,8 +20,7 @@ impl Slots {
         requires { (slot < process_slots) × (segment < 2 ^ 22) }
         ensures { result.words ≡ set self.words slot (slot_word segment write) }
     {
-        let w = board::bit_of(write);
-        self.words[slot] = (segment * 2 + w) as u32;
+        self.words[slot] = (segment * 2 + u64::from(write)) as u32;
         self
     }
 
