@@ -22,8 +22,9 @@ loop-g-init c = c.loop-f.invariant.1
 pub returns-then-w-page : goal.returns-then-w-page
 unfolding lowest_frame
 returns-then-w-page c = elim c.then-w-page.branch [
-  then-w-page-via-then-w-page w ↦ sym (c.loop-g.invariant ∙ low-1 _ _ _ c.loop-g-test.true w.if-w-page.true)
-  | then-w-page-via-else-w-page+then-w-page-2 w ↦ sym (c.loop-g.invariant ∙ low-3 _ _ _ c.loop-g-test.true w.if-w-page.false w.if-w-page-2.true) ]
+  | then-w-page-via-then-w-page w ↦ sym (c.loop-g.invariant ∙ low-1 _ _ _ c.loop-g-test.true w.if-w-page.true)
+  | then-w-page-via-else-w-page+then-w-page-2 w ↦ sym (c.loop-g.invariant ∙ low-3 _ _ _ c.loop-g-test.true w.if-w-page.false w.if-w-page-2.true)
+]
 
 pub loop-g-preserved : goal.loop-g-preserved
 unfolding lowest_frame

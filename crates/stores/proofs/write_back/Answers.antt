@@ -14,5 +14,6 @@ returns-then-l c = (search (rules, written-now), search (rules, writes-now))
 
 pub returns : goal.returns
 returns c = elim c.else-holds.branch [
-  else-holds-via-then-holds+else-l w ↦ (search (rules, written-clean), search (rules, writes-clean))
-  | else-holds-via-else-holds w ↦ (search (rules, written-not), search (rules, writes-not)) ]
+  | else-holds-via-then-holds+else-l w ↦ (search (rules, written-clean), search (rules, writes-clean))
+  | else-holds-via-else-holds w ↦ (search (rules, written-not), search (rules, writes-not))
+]

@@ -9,5 +9,6 @@ returns-then-holds c = search (rules, visited-treated)
 
 pub returns-else-is_named : goal.returns-else-is_named
 returns-else-is_named c = elim c.else-is_named.branch [
-  else-is_named-via-then-is_named+else-holds w ↦ search (rules, visited-none)
-  | else-is_named-via-else-is_named w ↦ search (rules, visited-other) ]
+  | else-is_named-via-then-is_named+else-holds w ↦ search (rules, visited-none)
+  | else-is_named-via-else-is_named w ↦ search (rules, visited-other)
+]
