@@ -1,9 +1,8 @@
 -- Numbers in bytes, width by width, as the code reads and writes them.
 use Prim.Native.Nat.{ℕ, zero, suc, ◌+◌, ◌*◌, ◌-◌, ◌/◌, ◌%◌, ◌^◌, ◌≤◌, ◌<◌}
 use mathlib.Core.Path.{◌≡◌, ◌∙◌, refl, sym, ap}
-use mathlib.Core.List.{List, ◌++◌}
+use mathlib.Core.List.{List, [], ◌∷◌, ◌++◌}
 use native.Mathlib.Nat.{add-zero, add-sub_cancel_left, div-one}
-use native.Mathlib.Numerals.{add-one}
 use native.Mathlib.Omega.{arith}
 use lib.ListN.{length, get_or, set, take, drop, length-replicate}
 use Rattle.board.specs.Lists.{part, splice}
@@ -81,29 +80,44 @@ module _ (bytes : List ℕ) (base a b : ℕ) (e : a ≡ number bytes base 2) (f 
   in_word before (suc (suc (suc (suc zero)))) at z h w = four-in before at z h w
   in_word before (suc (suc (suc (suc (suc width))))) at z h w = absurd (omega (arith, w.high))
 
-pub number-in-word : (bytes : List ℕ) (at width a b : ℕ) → a ≡ number bytes (at / 4 * 4) 2 → b ≡ number bytes (at / 4 * 4 + 2) 2 → a < 65536 → b < 65536
-    → get_or bytes (at / 4 * 4 + 1) 0 < 256 → get_or bytes (at / 4 * 4 + 2 + 1) 0 < 256 → at % 4 + width ≤ 4 → Width width
-    → (a * 65536 + b) * 2 ^ (at % 4 * 8) % 2 ^ 32 / 2 ^ (32 - 8 * width) ≡ number bytes at width
-number-in-word bytes at width a b e f la lb l₁ l₃ h w = in_word bytes (at / 4 * 4) a b e f la lb l₁ l₃ (at % 4) width at (omega arith) h w
+-- the word that four bytes make
+pub number-in-word : (bytes : List ℕ) (at width word : ℕ)
+    → word ≡ get_or bytes (at / 4 * 4) 0 * 256 ^ 3 + get_or bytes (at / 4 * 4 + 1) 0 * 256 ^ 2 + get_or bytes (at / 4 * 4 + 2) 0 * 256 ^ 1 + get_or bytes (at / 4 * 4 + 3) 0
+    → ((k : ℕ) → get_or bytes k 0 < 256) → at % 4 + width ≤ 4 → Width width
+    → word * 2 ^ (at % 4 * 8) % 2 ^ 32 / 2 ^ (32 - 8 * width) ≡ number bytes at width
+number-in-word bytes at width word e small h w =
+    let base = at / 4 * 4 in
+    let a = get_or bytes base 0 * 256 + get_or bytes (base + 1) 0 in
+    let b = get_or bytes (base + 2) 0 * 256 + get_or bytes (base + 2 + 1) 0 in
+    let z : base + 3 ≡ base + 2 + 1 = omega arith in
+    let y : get_or bytes (base + 3) 0 ≡ get_or bytes (base + 2 + 1) 0 = ap (λ (x : ℕ). get_or bytes x 0) z in
+    let x : word ≡ a * 65536 + b = omega (arith, e, y) in
+    rw x
+    (in_word bytes base a b (number-pair bytes base _ _ refl refl) (number-pair bytes (base + 2) _ _ refl refl) (omega (arith, small base, small (base + 1)))
+    (omega (arith, small (base + 2), small (base + 2 + 1))) (small (base + 1)) (small (base + 2 + 1)) (at % 4) width at (omega arith) h w)
 
 module _ (bytes : List ℕ) (at width value : ℕ) where
   pub stored_one : width ≡ 1 → set bytes at (value % 256) ≡ stored bytes at width value
   unfolding stored digits splice
   stored_one w = rw (w, div-one)
 
-  pub stored-two : width ≡ 2 → set (set bytes at (value / 256 % 256)) (at + 1) (value % 256) ≡ stored bytes at width value
-  unfolding stored digits splice
-  stored-two w = rw (w, add-one, div-one)
+  -- what lent bytes leave where a number's bytes were copied into them
+  module _ (line : List ℕ) where
+    pub stored-two : width ≡ 2 → at + 2 ≤ length bytes → line ≡ (value % 65536 / 256 % 256 ∷ value % 65536 % 256 ∷ [])
+        → take at bytes ++ (line ++ drop (at + 2 - at) (drop at bytes)) ≡ stored bytes at width value
+    unfolding stored digits
+    stored-two w h e =
+        let a : value % 65536 / 256 % 256 ≡ value / 256 % 256 = omega arith in
+        let b : value % 65536 % 256 ≡ value % 256 = omega arith in
+        rw (w, e, a, b, div-one) (splice-lent bytes at 2 (value / 256 % 256 ∷ value % 256 ∷ []) refl h)
 
-  pub stored-four : Width width → (width ≡ 1 → ⊥) → (width ≡ 2 → ⊥)
-      → set (set (set (set bytes at (value / 16777216 % 256)) (at + 1) (value / 65536 % 256)) (at + 2) (value / 256 % 256)) (at + 3) (value % 256)
-      ≡ stored bytes at width value
-  unfolding stored digits splice
-  stored-four h n m =
-      let z₁ : at + 1 ≡ suc at = omega arith in
-      let z₂ : at + 2 ≡ suc (suc at) = omega arith in
-      let z₃ : at + 3 ≡ suc (suc (suc at)) = omega arith in
-      rw (width_four width h n m, z₁, z₂, z₃, div-one)
+    pub stored-four : Width width → (width ≡ 1 → ⊥) → (width ≡ 2 → ⊥) → at + width ≤ length bytes
+        → line ≡ (value / 16777216 % 256 ∷ value / 65536 % 256 ∷ value / 256 % 256 ∷ value % 256 ∷ [])
+        → take at bytes ++ (line ++ drop (at + 4 - at) (drop at bytes)) ≡ stored bytes at width value
+    unfolding stored digits
+    stored-four g n m h e =
+        let w = width_four width g n m in
+        rw (w, e, div-one) (splice-lent bytes at 4 (value / 16777216 % 256 ∷ value / 65536 % 256 ∷ value / 256 % 256 ∷ value % 256 ∷ []) refl (omega arith))
 
   pub length-stored : length (stored bytes at width value) ≡ length bytes
   unfolding stored

@@ -1,26 +1,12 @@
 // Bytes: numbers in them, the most significant byte first, lines of sixteen, and frames filled with zeros.
 #![tactic(auto)]
 
-ghost use Rattle.std.specs.Prelude.{◌≡◌, ◌+◌, ◌*◌, ◌/◌, ◌≤◌, ◌<◌, length, get_or};
+ghost use Rattle.std.specs.Prelude.{◌≡◌, ◌+◌, ◌*◌, ◌/◌, ◌≤◌, ◌<◌, length};
 ghost use Rattle.address.specs.Layout.{page_bytes, line_bytes};
-ghost use Rattle.line_bytes.specs.Bytes.{number, stored, line_of, with_line, zeros, zeroed_frame};
+ghost use Rattle.line_bytes.specs.Bytes.{number, stored, line_of, with_line, zeroed_frame};
 ghost use Rattle.line_bytes.specs.Premises.{Width, InWord};
 
 use board::{LINE_BYTES, PAGE_BYTES};
-
-fn wide(x: u8) -> u32
-    ensures { (result ≡ x) × (result < 256) }
-{
-    x as u32
-}
-
-// The number of two bytes. The last fact is for who takes the two apart again.
-fn pair(bytes: &[u8], at: usize) -> u32
-    requires { at + 2 ≤ length bytes.now }
-    ensures { (result ≡ number bytes.now at 2) × (result < 65536) × (get_or bytes.now (at + 1) 0 < 256) }
-{
-    wide(bytes[at]) * 256 + wide(bytes[at + 1])
-}
 
 // The number in `width` bytes, the most significant first: by the aligned word that they lie in, so that every width costs the
 // same and the compiler needs no branch.
@@ -29,7 +15,12 @@ pub fn load_bytes(bytes: &[u8], at: usize, width: u32) -> u32
     ensures { result ≡ number bytes.now at width }
 {
     let base = at / 4 * 4;
-    let word = pair(bytes, base) * 65536 + pair(bytes, base + 2);
+    let word = u32::from_be_bytes([
+        bytes[base],
+        bytes[base + 1],
+        bytes[base + 2],
+        bytes[base + 3],
+    ]);
     let before = (at % 4) as u32 * 8;
     (word << before) >> (32 - 8 * width)
 }
@@ -41,28 +32,10 @@ pub fn store_bytes(bytes: &mut [u8], at: usize, width: u32, value: u32)
 {
     if width == 1 {
         bytes[at] = (value % 256) as u8;
-        return;
-    }
-    if width == 2 {
-        bytes[at] = (value / 256 % 256) as u8;
-        bytes[at + 1] = (value % 256) as u8;
-        return;
-    }
-    bytes[at] = (value / 16777216 % 256) as u8;
-    bytes[at + 1] = (value / 65536 % 256) as u8;
-    bytes[at + 2] = (value / 256 % 256) as u8;
-    bytes[at + 3] = (value % 256) as u8;
-}
-
-// Copies one line's sixteen bytes.
-fn copy_sixteen(dst: &mut [u8], src: &[u8])
-    requires { (length dst.old ≡ line_bytes) × (length src.now ≡ line_bytes) }
-    ensures { dst.new ≡ src.now }
-{
-    let mut i: usize = 0;
-    while i < 16 {
-        dst[i] = src[i];
-        i += 1;
+    } else if width == 2 {
+        bytes[at..at + 2].copy_from_slice(&((value % 65536) as u16).to_be_bytes());
+    } else {
+        bytes[at..at + 4].copy_from_slice(&value.to_be_bytes());
     }
 }
 
@@ -73,20 +46,9 @@ pub fn copy_line(dst: &mut [u8], i: usize, src: &[u8], j: usize)
 {
     let a = LINE_BYTES * i;
     let b = LINE_BYTES * j;
-    let mut line: [u8; 16] = [0; 16];
-    copy_sixteen(&mut line, &src[b..b + LINE_BYTES]);
-    copy_sixteen(&mut dst[a..a + LINE_BYTES], &line);
-}
-
-// Fills bytes with zeros.
-fn zero(bytes: &mut [u8])
-    ensures { bytes.new ≡ zeros (length bytes.old) }
-{
-    let mut i: usize = 0;
-    while i < bytes.len() {
-        bytes[i] = 0;
-        i += 1;
-    }
+    let mut line = [0u8; LINE_BYTES];
+    line.copy_from_slice(&src[b..b + LINE_BYTES]);
+    dst[a..a + LINE_BYTES].copy_from_slice(&line);
 }
 
 // Fills a frame with zeros.
@@ -95,5 +57,5 @@ pub fn zero_frame(memory: &mut [u8], frame: usize)
     ensures { memory.new ≡ zeroed_frame memory.old frame }
 {
     let a = PAGE_BYTES * frame;
-    zero(&mut memory[a..a + PAGE_BYTES]);
+    memory[a..a + PAGE_BYTES].fill(0);
 }

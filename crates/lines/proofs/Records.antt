@@ -49,11 +49,6 @@ module _ (records : List ℕ) (i : ℕ) (l : Line) where
       λ k a b. get_or-set_other (set records (2 * i) l.name) (2 * i + 1) k (word_of l) 0 b ∙ get_or-set_other records (2 * i) k l.name 0 a in
       rw (same (2 * j) (λ e. d (omega arith)) (λ e. omega arith), same (2 * j + 1) (λ e. omega arith) (λ e. d (omega arith)))
 
-pub put-words : (r : List ℕ) (i : ℕ) (l : Line) (c w v : ℕ) → c ≡ bit l.changed → w ≡ bit l.write → v ≡ bit l.valid
-    → set (set r (2 * i) l.name) (2 * i + 1) (l.physical * 8 + c * 4 + w * 2 + v) ≡ put_line r i l
-unfolding put_line
-put-words r i l c w v e f g = rw (e, f, g)
-
 -- a record read, changed in one field and put back
 module _ (r r₁ : List ℕ) (i : ℕ) (l : Line) (e : l ≡ line_at r i) where
   pub put-changed : r₁ ≡ put_line r i (changed_line l) → r₁ ≡ put_line r i (changed_line (line_at r i))

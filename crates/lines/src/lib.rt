@@ -23,14 +23,27 @@ pub struct Line {
     pub write: bool,
 }
 
+impl Line {
+    // No line: not valid, and all fields 0.
+    pub fn none() -> Line
+        ensures { result ≡ no_line }
+    {
+        Line {
+            valid: false,
+            name: 0,
+            physical: 0,
+            changed: false,
+            write: false,
+        }
+    }
+}
+
 // A name's low bits, as many as the number of sets has trailing zeros.
 pub fn place_of(sets: usize, name: u64) -> usize
     requires { ones sets ≡ 1 }
     ensures { (result ≡ name % sets) × (result < sets) }
 {
-    let bits = usize::trailing_zeros(sets);
-    let n = name as usize;
-    n % (1 << bits)
+    name as usize % (1 << sets.trailing_zeros())
 }
 
 // How many sets there are.
@@ -71,8 +84,7 @@ fn name_place(s: Shape, name: u64) -> usize
     requires { Lined s }
     ensures { (result ≡ place_of s name) × (result < sets_of s) }
 {
-    let sets = sets_of(s);
-    place_of(sets, name)
+    place_of(sets_of(s), name)
 }
 
 // Reads record `i`.
@@ -84,7 +96,7 @@ pub fn line_at(records: &[u64], i: usize) -> Line
     let word = records[RECORD_WORDS * i + 1];
     Line {
         valid: word % 2 == 1,
-        name: name,
+        name,
         physical: word / 8,
         changed: word / 4 % 2 == 1,
         write: word / 2 % 2 == 1,
@@ -96,11 +108,11 @@ pub fn put_line(records: &mut [u64], i: usize, l: Line)
     requires { (2 * i + 2 ≤ length records.old) × (l.physical < 2 ^ 61) }
     ensures { records.new ≡ put_line records.old i l }
 {
-    let c = board::bit_of(l.changed);
-    let w = board::bit_of(l.write);
-    let v = board::bit_of(l.valid);
     records[RECORD_WORDS * i] = l.name;
-    records[RECORD_WORDS * i + 1] = l.physical * 8 + c * 4 + w * 2 + v;
+    records[RECORD_WORDS * i + 1] = l.physical * 8
+        + u64::from(l.changed) * 4
+        + u64::from(l.write) * 2
+        + u64::from(l.valid);
 }
 
 // Record `i`, with these fields, holds a line.
@@ -108,8 +120,7 @@ pub fn holds(s: Shape, i: usize, l: Line) -> bool
     requires { Lined s }
     ensures { result ≡ holds_line s i l }
 {
-    let name = l.name;
-    let place = name_place(s, name);
+    let place = name_place(s, l.name);
     let own = set_at(s, i);
     let end = PAGE_LINES * s.frames;
     l.valid & ((own == place) & (l.physical < end as u64))
@@ -121,10 +132,7 @@ fn holds_name(s: Shape, records: &[u64], i: usize, name: u64) -> bool
     ensures { result ≡ holds_name s records.now name i }
 {
     let l = line_at(records, i);
-    if l.name == name {
-        return holds(s, i, l);
-    }
-    false
+    l.name == name && holds(s, i, l)
 }
 
 // Record `i` if it has this name, held or not; else `later`.
@@ -155,13 +163,10 @@ fn holder_in(s: Shape, records: &[u64], first: usize, name: u64) -> Option<usize
     requires { Lined s × (first + set_lines ≤ s.lines) × (length records.now ≡ 2 * s.lines) }
     ensures { result ≡ lowest (holds_name s records.now name) first set_lines }
 {
-    let end = first + SET_LINES;
-    let mut i = named_in(records, first, name);
-    while i < end {
+    for i in named_in(records, first, name)..first + SET_LINES {
         if holds_name(s, records, i, name) {
             return Some(i);
         }
-        i += 1;
     }
     None
 }
@@ -176,6 +181,7 @@ pub fn holder_of(s: Shape, records: &[u64], name: u64) -> Option<usize>
     if s.ways == SET_LINES {
         return holder_in(s, records, first, name);
     }
+    // (with `then_some` the answer waits for all that is compared)
     if holds_name(s, records, first, name) {
         return Some(first);
     }
@@ -187,13 +193,8 @@ fn empty_in(s: Shape, records: &[u64], first: usize) -> Option<usize>
     requires { Lined s × (first + set_lines ≤ s.lines) × (length records.now ≡ 2 * s.lines) }
     ensures { result ≡ lowest (is_empty s records.now) first set_lines }
 {
-    let end = first + SET_LINES;
-    let mut i = first;
-    while i < end {
-        let l = line_at(records, i);
-        if holds(s, i, l) {
-            i += 1;
-        } else {
+    for i in first..first + SET_LINES {
+        if !holds(s, i, line_at(records, i)) {
             return Some(i);
         }
     }
@@ -208,10 +209,7 @@ fn victim_in(s: Shape, records: &[u64], uses: &[[[u8; 4]; 4]], place: usize, fir
 {
     match empty_in(s, records, first) {
         Some(i) => i,
-        None => {
-            let m = uses[place];
-            first + sets::fewest_of(m)
-        }
+        None => first + sets::fewest_of(uses[place]),
     }
 }
 
@@ -239,10 +237,7 @@ pub fn room_for(s: Shape, records: &[u64], uses: &[[[u8; 4]; 4]], name: u64) -> 
     if s.ways == SET_LINES {
         return match holder_in(s, records, first, name) {
             Some(_) => None,
-            None => {
-                let to = victim_in(s, records, uses, place, first);
-                Some(to)
-            }
+            None => Some(victim_in(s, records, uses, place, first)),
         };
     }
     if holds_name(s, records, first, name) {
@@ -266,9 +261,8 @@ pub fn mark_changed(records: &mut [u64], i: usize)
     requires { 2 * i + 2 ≤ length records.old }
     ensures { records.new ≡ put_line records.old i (changed_line (line_at records.old i)) }
 {
-    let mut l = line_at(records, i);
-    l.changed = true;
-    put_line(records, i, l);
+    let l = line_at(records, i);
+    put_line(records, i, Line { changed: true, ..l });
 }
 
 // Gives the line of record `i` a permission.
@@ -276,9 +270,8 @@ pub fn permit_line(records: &mut [u64], i: usize, write: bool)
     requires { 2 * i + 2 ≤ length records.old }
     ensures { records.new ≡ put_line records.old i (permitted_line (line_at records.old i) write) }
 {
-    let mut l = line_at(records, i);
-    l.write = write;
-    put_line(records, i, l);
+    let l = line_at(records, i);
+    put_line(records, i, Line { write, ..l });
 }
 
 // Drops the line of record `i`.
@@ -286,17 +279,7 @@ pub fn drop_line(records: &mut [u64], i: usize)
     requires { 2 * i + 2 ≤ length records.old }
     ensures { records.new ≡ put_line records.old i no_line }
 {
-    put_line(
-        records,
-        i,
-        Line {
-            valid: false,
-            name: 0,
-            physical: 0,
-            changed: false,
-            write: false,
-        },
-    );
+    put_line(records, i, Line::none());
 }
 
 // Record `i` holds this physical line.
@@ -314,13 +297,10 @@ pub fn keeper_of(s: Shape, records: &[u64], line: usize) -> Option<usize>
     requires { Lined s × (length records.now ≡ 2 * s.lines) }
     ensures { result ≡ keeper_of s records.now line }
 {
-    let lines = s.lines;
-    let mut i: usize = 0;
-    while i < lines {
+    for i in 0..s.lines {
         if keeps(s, records, i, line) {
             return Some(i);
         }
-        i += 1;
     }
     None
 }

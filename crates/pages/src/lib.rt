@@ -15,8 +15,7 @@ pub fn frame_word(page: u64, write: bool) -> u64
     requires { page < 2 ^ 32 }
     ensures { result ≡ frame_word page write }
 {
-    let w = board::bit_of(write);
-    page * 4 + 2 * w + 1
+    page * 4 + 2 * u64::from(write) + 1
 }
 
 // A frame word's write bit.
@@ -68,18 +67,15 @@ fn lowest_frame(words: &[u64], u: usize, page: u64) -> Option<usize>
         return None;
     }
     let mut f = u;
+    // (no `for`: the other search begins where this one ends)
     while clear_of(words, f, page) {
         f += 8;
     }
-    while f < words.len() {
-        let w = words[f];
-        if w == page * 4 + 1 {
-            return Some(f);
+    for g in f..words.len() {
+        let w = words[g];
+        if w == page * 4 + 1 || w == page * 4 + 3 {
+            return Some(g);
         }
-        if w == page * 4 + 3 {
-            return Some(f);
-        }
-        f += 1;
     }
     None
 }
@@ -88,9 +84,8 @@ fn lowest_frame(words: &[u64], u: usize, page: u64) -> Option<usize>
 pub fn mapped_to(s: Shape, words: &[u64], page: u64) -> Option<usize>
     ensures { result ≡ mapped_to s words.now page }
 {
-    let u = s.uncached;
     if ordinary_page(page) {
-        return lowest_frame(words, u, page);
+        return lowest_frame(words, s.uncached, page);
     }
     None
 }
@@ -100,13 +95,7 @@ fn free_frame(s: Shape, words: &[u64], frame: usize) -> bool
     requires { length words.now ≡ s.frames }
     ensures { result ≡ free_frame s words.now frame }
 {
-    if frame < s.uncached {
-        return false;
-    }
-    if s.frames <= frame {
-        return false;
-    }
-    words[frame] == 0
+    s.uncached <= frame && frame < s.frames && words[frame] == 0
 }
 
 // The physical line of an address under prefix 1.
@@ -132,13 +121,10 @@ pub fn home_of(s: Shape, words: &[u64], g: Global) -> Option<Home>
     ensures { result ≡ home_of s words.now (name_of g) }
 {
     match mapped_to(s, words, g.page()) {
-        Some(f) => {
-            let w = words[f];
-            Some(Home {
-                line: g.in_frame(f).line(),
-                write: word_writes(w),
-            })
-        }
+        Some(f) => Some(Home {
+            line: g.in_frame(f).line(),
+            write: word_writes(words[f]),
+        }),
         None => direct_home(s, words, g),
     }
 }

@@ -1,5 +1,5 @@
 -- The places of a range's names, run by run.
-use Prim.Native.Nat.{ℕ, ◌+◌, ◌*◌, ◌-◌, ◌/◌, ◌%◌, suc, ◌≤◌, ◌<◌}
+use Prim.Native.Nat.{ℕ, min, ◌+◌, ◌*◌, ◌-◌, ◌/◌, ◌%◌, suc, ◌≤◌, ◌<◌}
 use mathlib.Core.Path.{◌≡◌, ◌∙◌, refl, sym}
 use mathlib.Core.Bool.{Bool, true, false, cond, ◌||◌}
 use native.Mathlib.Nat.{div-add-mod', mul-add-mod_self_right, mod-eq_of_lt, add-mod_left, lt_of_mul-lt-mul_right, mul-le-mul_right, suc-mul}
@@ -41,6 +41,10 @@ module _ (sets first place start : ℕ) (s : start ≡ first % sets) (low : star
       rw z (add-mod_left sets (first / sets * sets + place) ∙ rest_is sets (first / sets) _ place refl h)
 
 -- ---- how many places are taken
+
+pub lesser : (names room : ℕ) (t : Bool) → ltb names room ≡ t → min names room ≡ cond t names room
+lesser names room true e = let a = ltb-true names room e in omega arith
+lesser names room false e = let a = ltb-false names room e in omega arith
 
 module _ (room names t : ℕ) where
   taken-by : (u : Bool) → ltb names room ≡ u → t ≡ cond u names room → (t ≤ names) × (t ≤ room) × (0 < names → 0 < room → 0 < t)

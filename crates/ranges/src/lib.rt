@@ -60,10 +60,7 @@ pub fn direct_names(frame: usize) -> Range
 fn in_range(r: Range, name: u64) -> bool
     ensures { result ≡ in_range r name }
 {
-    if name < r.first {
-        return false;
-    }
-    name - r.first < r.count
+    r.first <= name && name - r.first < r.count
 }
 
 // The name is one of these.
@@ -93,10 +90,7 @@ fn names_to(sets: usize, first: u64, place: usize) -> usize
 fn taken(room: usize, names: u64) -> usize
     ensures { (result ≡ cond (ltb names room) names room) × (result ≤ room) }
 {
-    if names < room as u64 {
-        return names as usize;
-    }
-    room
+    names.min(room as u64) as usize
 }
 
 // No places: the run at the end.
@@ -140,10 +134,7 @@ fn range_run(sets: usize, r: Range, place: usize) -> Run
 fn earlier(a: Run, b: Run) -> Run
     ensures { result ≡ cond (leb a.start b.start) a b }
 {
-    if a.start <= b.start {
-        return a;
-    }
-    b
+    if a.start <= b.start { a } else { b }
 }
 
 // The first run of places of these names, from `place` on.

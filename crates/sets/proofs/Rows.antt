@@ -1,10 +1,17 @@
 -- The ones of a row, and the line with the fewest.
 use Prim.Native.Nat.{ℕ, ◌+◌, ◌≤◌, ◌<◌}
 use mathlib.Core.Path.{◌≡◌}
+use mathlib.Core.Bool.{Bool, true, false, not, cond}
 use mathlib.Core.List.{List}
+use native.Mathlib.Omega.{arith}
+use mir.Val.{bool_byte}
 use lib.ListN.{get_or}
 use borrow.Author.Tests.{le-leb, lt-leb}
 use Rattle.sets.specs.Matrices.{Matrix, row_of, one, ones_of, fewer, fewest}
+
+pub one-is : (t : Bool) (r : ℕ) → r ≡ bool_byte (not t) → (r ≡ cond t 0 1) × (r ≤ 1)
+one-is true r e = (e, omega (arith, e))
+one-is false r e = (e, omega (arith, e))
 
 pub ones-by : (row : List ℕ) (a b c d : ℕ) → a ≡ one (get_or row 0 0) → b ≡ one (get_or row 1 0) → c ≡ one (get_or row 2 0) → d ≡ one (get_or row 3 0)
     → a + b + c + d ≡ ones_of row

@@ -10,12 +10,10 @@ fn used(m: [[u8; 4]; 4], r: usize) -> [[u8; 4]; 4]
     ensures { result ≡ used_of m r }
 {
     let mut n = m;
-    let row = [1u8; 4];
-    n[r] = row;
-    n[0][r] = 0;
-    n[1][r] = 0;
-    n[2][r] = 0;
-    n[3][r] = 0;
+    n[r] = [1; 4];
+    for row in n.iter_mut() {
+        row[r] = 0;
+    }
     n
 }
 
@@ -23,13 +21,10 @@ fn used(m: [[u8; 4]; 4], r: usize) -> [[u8; 4]; 4]
 fn one_of(x: u8) -> u32
     ensures { (result ≡ one x) × (result ≤ 1) }
 {
-    if x == 0 {
-        return 0;
-    }
-    1
+    u32::from(x != 0)
 }
 
-// How many ones a row has.
+// How many ones a row has. (By `filter` and `count` this is slower: a branch for each entry.)
 fn ones_of(row: [u8; 4]) -> u32
     ensures { result ≡ ones_of row }
 {
@@ -41,12 +36,7 @@ fn fewer_of(m: [[u8; 4]; 4], a: usize, b: usize) -> usize
     requires { (a < 4) × (b < 4) }
     ensures { (result ≡ fewer m a b) × (result < 4) }
 {
-    let x = m[a];
-    let y = m[b];
-    if ones_of(x) <= ones_of(y) {
-        return a;
-    }
-    b
+    if ones_of(m[a]) <= ones_of(m[b]) { a } else { b }
 }
 
 // The lowest line whose row has the fewest ones.
@@ -63,7 +53,5 @@ pub fn note(uses: &mut [[[u8; 4]; 4]], at: usize, r: usize)
     requires { (at < length uses.old) × (r < 4) }
     ensures { uses.new ≡ set uses.old at (used_of (get_or uses.old at []) r) }
 {
-    let m = uses[at];
-    let n = used(m, r);
-    uses[at] = n;
+    uses[at] = used(uses[at], r);
 }

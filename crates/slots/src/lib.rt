@@ -8,18 +8,6 @@ ghost use Rattle.slots.specs.Slots.{slot_index, slot_word};
 
 use board::PROCESS_SLOTS;
 
-// Copies slot words.
-fn copy_words(dst: &mut [u32], src: &[u32])
-    requires { length dst.old ≡ length src.now }
-    ensures { dst.new ≡ src.now }
-{
-    let mut i: usize = 0;
-    while i < dst.len() {
-        dst[i] = src[i];
-        i += 1;
-    }
-}
-
 // The slots of one process, by value.
 #[derive(Clone, Copy)]
 pub struct Slots {
@@ -32,8 +20,7 @@ impl Slots {
         requires { (slot < process_slots) × (segment < 2 ^ 22) }
         ensures { result.words ≡ set self.words slot (slot_word segment write) }
     {
-        let w = board::bit_of(write);
-        self.words[slot] = (segment * 2 + w) as u32;
+        self.words[slot] = (segment * 2 + u64::from(write)) as u32;
         self
     }
 
@@ -53,9 +40,9 @@ fn slots_of(slots: &[u32], process: usize) -> Slots
     ensures { result.words ≡ part slots.now (slot_index process 0) process_slots }
 {
     let a = process * PROCESS_SLOTS;
-    let mut words: [u32; PROCESS_SLOTS] = [0; PROCESS_SLOTS];
-    copy_words(&mut words, &slots[a..a + PROCESS_SLOTS]);
-    Slots { words: words }
+    let mut words = [0; PROCESS_SLOTS];
+    words.copy_from_slice(&slots[a..a + PROCESS_SLOTS]);
+    Slots { words }
 }
 
 // One process's slots, copied back.
@@ -64,8 +51,7 @@ fn put_slots(slots: &mut [u32], process: usize, one: Slots)
     ensures { slots.new ≡ splice slots.old (slot_index process 0) one.words }
 {
     let a = process * PROCESS_SLOTS;
-    let w = one.words;
-    copy_words(&mut slots[a..a + PROCESS_SLOTS], &w);
+    slots[a..a + PROCESS_SLOTS].copy_from_slice(&one.words);
 }
 
 // Attaches a segment to a slot of a process.

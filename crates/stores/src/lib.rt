@@ -24,11 +24,9 @@ pub fn write_back(s: Shape, records: &[u64], cache: &[u8], memory: &mut [u8], i:
     ensures { (store records.now cache.now memory.new ≡ written_back s i (store records.now cache.now memory.old)) × (result ≡ must_write_back s records.now i) }
 {
     let l = lines::line_at(records, i);
-    if lines::holds(s, i, l) {
-        if l.changed {
-            line_bytes::copy_line(memory, l.physical as usize, cache, i);
-            return true;
-        }
+    if lines::holds(s, i, l) && l.changed {
+        line_bytes::copy_line(memory, l.physical as usize, cache, i);
+        return true;
     }
     false
 }
@@ -54,10 +52,10 @@ pub fn insert(
         i,
         Line {
             valid: true,
-            name: name,
+            name,
             physical: line as u64,
             changed: false,
-            write: write,
+            write,
         },
     );
     line_bytes::copy_line(cache, i, memory, line);
@@ -70,11 +68,10 @@ pub fn perform(records: &mut [u64], cache: &mut [u8], i: usize, offset: usize, a
     ensures { performed result records.new cache.new ≡ performed_at i offset a records.old cache.old }
 {
     let at = LINE_BYTES * i + offset;
-    let width = a.width;
     if a.store {
-        line_bytes::store_bytes(cache, at, width, a.value);
+        line_bytes::store_bytes(cache, at, a.width, a.value);
         lines::mark_changed(records, i);
         return 0;
     }
-    line_bytes::load_bytes(cache, at, width)
+    line_bytes::load_bytes(cache, at, a.width)
 }

@@ -36,7 +36,7 @@ fn of_ranges(deed: Deed, range: Range, other: Range) -> Visit
     ensures { result ≡ visit deed (Two range other) }
 {
     Visit {
-        deed: deed,
+        deed,
         names: Names::Two(range, other),
     }
 }
@@ -56,10 +56,9 @@ fn of_page(deed: Deed, page: u64) -> Visit
     requires { page < page_end }
     ensures { result ≡ visit deed (One (page_names page)) }
 {
-    let range = ranges::page_names(page);
     Visit {
-        deed: deed,
-        names: Names::One(range),
+        deed,
+        names: Names::One(ranges::page_names(page)),
     }
 }
 
@@ -124,12 +123,8 @@ fn visit_line(s: Shape, records: &mut [u64], cache: &[u8], memory: &mut [u8], i:
     ensures { store records.new cache.now memory.new ≡ visited s v i (store records.old cache.now memory.old) }
 {
     let l = lines::line_at(records, i);
-    let names = v.names;
-    if ranges::is_named(names, l.name) {
-        if lines::holds(s, i, l) {
-            let deed = v.deed;
-            treat(s, records, cache, memory, i, deed);
-        }
+    if ranges::is_named(v.names, l.name) && lines::holds(s, i, l) {
+        treat(s, records, cache, memory, i, v.deed);
     }
 }
 
@@ -138,11 +133,8 @@ fn visit_run(s: Shape, records: &mut [u64], cache: &[u8], memory: &mut [u8], v: 
     requires { Sized s records.old cache.now memory.old × (run.start ≤ run.end) × (run.end ≤ sets_of s) × Inside (sets_of s) v.names run }
     ensures { store records.new cache.now memory.new ≡ sweep (visited s v) (first_at s (run.end - run.start)) (first_at s run.start) (store records.old cache.now memory.old) }
 {
-    let end = lines::first_at(s, run.end);
-    let mut i = lines::first_at(s, run.start);
-    while i < end {
+    for i in lines::first_at(s, run.start)..lines::first_at(s, run.end) {
         visit_line(s, records, cache, memory, i, v);
-        i += 1;
     }
 }
 
@@ -152,10 +144,10 @@ pub fn visit_names(s: Shape, records: &mut [u64], cache: &[u8], memory: &mut [u8
     ensures { store records.new cache.now memory.new ≡ visited_all s v (store records.old cache.now memory.old) }
 {
     let sets = lines::sets_of(s);
-    let names = v.names;
-    let mut place: usize = 0;
+    let mut place = 0;
+    // (no `for`: it goes from run to run, and each begins where the last one ends)
     while place < sets {
-        let run = ranges::next_run(sets, names, place);
+        let run = ranges::next_run(sets, v.names, place);
         visit_run(s, records, cache, memory, v, run);
         place = run.end;
     }

@@ -11,8 +11,8 @@ loop-i-init c = first-start _ _ _ _ refl
 pub loop-i-preserved : goal.loop-i-preserved
 loop-i-preserved c = c.loop-i.invariant ∙ search (rules, empty-more)
 
-pub returns-else-holds : goal.returns-else-holds
-returns-else-holds c = sym (c.loop-i.invariant ∙ search (rules, empty-here))
+pub returns-then-not-holds : goal.returns-then-not-holds
+returns-then-not-holds c = sym (c.loop-i.invariant ∙ search (rules, empty-here))
 
 pub returns : goal.returns
 returns c = sym (c.loop-i.invariant ∙ search (rules, first-end))

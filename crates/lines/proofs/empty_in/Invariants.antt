@@ -7,7 +7,4 @@ use Rattle.lines.specs.Victims.{is_empty}
 use Rattle.lines.proofs.empty_in.Given as goal
 
 abbrev pub invariant-loop-i : goal.invariant-loop-i
-invariant-loop-i l = lowest (is_empty l.s l.records) l.first set_lines ≡ lowest (is_empty l.s l.records) l.i (l.end - l.i)
-
-abbrev pub decreases-loop-i : goal.decreases-loop-i
-decreases-loop-i l = l.end - l.i
+invariant-loop-i l = lowest (is_empty l.s l.records) l.first set_lines ≡ lowest (is_empty l.s l.records) l.i (l.i-end - l.i)

@@ -7,7 +7,4 @@ use Rattle.lines.specs.Holds.{holds_name}
 use Rattle.lines.proofs.holder_in.Given as goal
 
 abbrev pub invariant-loop-i : goal.invariant-loop-i
-invariant-loop-i l = lowest (holds_name l.s l.records l.name) l.first set_lines ≡ lowest (holds_name l.s l.records l.name) l.i (l.end - l.i)
-
-abbrev pub decreases-loop-i : goal.decreases-loop-i
-decreases-loop-i l = l.end - l.i
+invariant-loop-i l = lowest (holds_name l.s l.records l.name) l.first set_lines ≡ lowest (holds_name l.s l.records l.name) l.i (l.i-end - l.i)

@@ -6,5 +6,5 @@ use Rattle.lines.proofs.holds_name.Goals as goal
 pub returns-then-l-name : goal.returns-then-l-name
 returns-then-l-name c = search (rules, holds_named)
 
-pub returns : goal.returns
-returns c = search (rules, holds-other)
+pub returns-else-l-name : goal.returns-else-l-name
+returns-else-l-name c = search (rules, holds-other)

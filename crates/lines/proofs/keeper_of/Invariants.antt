@@ -7,6 +7,3 @@ use Rattle.lines.proofs.keeper_of.Given as goal
 
 abbrev pub invariant-loop-i : goal.invariant-loop-i
 invariant-loop-i l = keeper_of l.s l.records l.line ≡ first (keeps_line l.s l.records l.line) l.i (l.s.lines - l.i)
-
-abbrev pub decreases-loop-i : goal.decreases-loop-i
-decreases-loop-i l = l.lines - l.i

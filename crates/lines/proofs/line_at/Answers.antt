@@ -7,4 +7,4 @@ use Rattle.lines.proofs.line_at.Goals as goal
 
 pub returns : goal.returns
 unfolding line_at
-returns c = (refl, omega (arith, c.shared_slice_known-2-1.given (2 * c.args.i + 1)))
+returns c = (refl, omega (arith, c.type_inv.records (2 * c.args.i + 1)))

@@ -2,8 +2,8 @@
 use Rattle.lines.proofs.Holders.{name-placed}
 use Rattle.lines.proofs.name_place.Goals as goal
 
-pub sets_of-sets-requires : goal.sets_of-sets-requires
-sets_of-sets-requires c = c.requires
+pub sets_of-requires : goal.sets_of-requires
+sets_of-requires c = c.requires
 
 pub returns : goal.returns
-returns c = name-placed c.args.s _ _ _ c.sets_of-sets.ensures.0 c.place_of.ensures.0 c.place_of.ensures.1
+returns c = name-placed c.args.s _ _ _ c.sets_of.ensures.0 c.place_of.ensures.0 c.place_of.ensures.1

@@ -1,4 +1,5 @@
 -- `free_frame` is its three tests in order.
+use borrow.Author.Tests.{le-leb, lt-ltb}
 use Rattle.pages.specs.Pages.{free_frame}
 use Rattle.address.proofs.Tests.{tests}
 use borrow.Author.Rules.{rules}
@@ -6,12 +7,8 @@ use Rattle.pages.proofs.free_frame.Goals as goal
 
 pub returns-then-frame-s : goal.returns-then-frame-s
 unfolding free_frame
-returns-then-frame-s c = search (rules, tests)
+returns-then-frame-s c = rw (le-leb _ _ c.if-frame-s.true.0, lt-ltb _ _ c.if-frame-s.true.1)
 
-pub returns-then-s-frame : goal.returns-then-s-frame
+pub returns-else-frame-s : goal.returns-else-frame-s
 unfolding free_frame
-returns-then-s-frame c = search (rules, tests)
-
-pub returns : goal.returns
-unfolding free_frame
-returns c = search (rules, tests)
+returns-else-frame-s c = search (rules, tests)

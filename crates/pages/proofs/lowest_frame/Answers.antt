@@ -5,6 +5,7 @@ use Rattle.pages.specs.Pages.{lowest_frame}
 use Rattle.pages.proofs.Frames.{low-1, low-3, low-others, low-next, low_end, low-beyond}
 use borrow.Author.Rules.{rules}
 use Rattle.pages.proofs.lowest_frame.Goals as goal
+use Rattle.pages.proofs.lowest_frame.Goals.{then-w-page-via-then-w-page, then-w-page-via-else-w-page+then-w-page-2}
 
 pub returns-then-words-u : goal.returns-then-words-u
 unfolding lowest_frame
@@ -14,25 +15,24 @@ pub loop-f-init : goal.loop-f-init
 unfolding lowest_frame
 loop-f-init c = (search rules, refl)
 
-pub loop-f-2-init : goal.loop-f-2-init
+pub loop-g-init : goal.loop-g-init
 unfolding lowest_frame
-loop-f-2-init c = c.loop-f.invariant.1
+loop-g-init c = c.loop-f.invariant.1
 
 pub returns-then-w-page : goal.returns-then-w-page
 unfolding lowest_frame
-returns-then-w-page c = sym (c.loop-f-2.invariant ∙ search (rules, low-1))
+returns-then-w-page c = elim c.then-w-page.branch [
+  | then-w-page-via-then-w-page w ↦ sym (c.loop-g.invariant ∙ low-1 _ _ _ c.loop-g-test.true w.if-w-page.true)
+  | then-w-page-via-else-w-page+then-w-page-2 w ↦ sym (c.loop-g.invariant ∙ low-3 _ _ _ c.loop-g-test.true w.if-w-page.false w.if-w-page-2.true)
+]
 
-pub returns-then-w-page-2 : goal.returns-then-w-page-2
+pub loop-g-preserved : goal.loop-g-preserved
 unfolding lowest_frame
-returns-then-w-page-2 c = sym (c.loop-f-2.invariant ∙ search (rules, low-3))
-
-pub loop-f-2-preserved : goal.loop-f-2-preserved
-unfolding lowest_frame
-loop-f-2-preserved c = c.loop-f-2.invariant ∙ search (rules, low-next)
+loop-g-preserved c = c.loop-g.invariant ∙ search (rules, low-next)
 
 pub returns : goal.returns
 unfolding lowest_frame
-returns c = sym (c.loop-f-2.invariant ∙ search (rules, low_end))
+returns c = sym (c.loop-g.invariant ∙ search (rules, low_end))
 
 pub loop-f-preserved : goal.loop-f-preserved
 loop-f-preserved c =

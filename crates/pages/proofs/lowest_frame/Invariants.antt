@@ -11,8 +11,5 @@ invariant-loop-f l = (l.f ≤ length l.words) × (lowest_frame l.words l.u l.pag
 abbrev pub decreases-loop-f : goal.decreases-loop-f
 decreases-loop-f l = length l.words - l.f
 
-abbrev pub invariant-loop-f-2 : goal.invariant-loop-f-2
-invariant-loop-f-2 l = lowest_frame l.words l.u l.page ≡ lowest_from (drop l.f l.words) l.f l.page
-
-abbrev pub decreases-loop-f-2 : goal.decreases-loop-f-2
-decreases-loop-f-2 l = length l.words - l.f
+abbrev pub invariant-loop-g : goal.invariant-loop-g
+invariant-loop-g l = lowest_frame l.words l.u l.page ≡ lowest_from (drop l.g l.words) l.g l.page

@@ -6,5 +6,5 @@ use Rattle.ranges.proofs.earlier.Goals as goal
 pub returns-then-a-b : goal.returns-then-a-b
 returns-then-a-b c = search (rules, tests)
 
-pub returns : goal.returns
-returns c = search (rules, tests)
+pub returns-else-a-b : goal.returns-else-a-b
+returns-else-a-b c = search (rules, tests)

@@ -6,5 +6,5 @@ use Rattle.sets.proofs.fewer_of.Goals as goal
 pub returns-then-ones_of : goal.returns-then-ones_of
 returns-then-ones_of c = search (rules, fewer-first)
 
-pub returns : goal.returns
-returns c = search (rules, fewer-second)
+pub returns-else-ones_of : goal.returns-else-ones_of
+returns-else-ones_of c = search (rules, fewer-second)

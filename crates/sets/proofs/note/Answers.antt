@@ -3,4 +3,4 @@ use mathlib.Core.Path.{refl}
 use Rattle.sets.proofs.note.Goals as goal
 
 pub returns : goal.returns
-returns c = rw c.used-n.ensures refl
+returns c = rw c.used.ensures refl

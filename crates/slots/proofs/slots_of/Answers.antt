@@ -5,4 +5,4 @@ use Rattle.slots.proofs.slots_of.Goals as goal
 
 pub returns : goal.returns
 unfolding part
-returns c = simp (c.copy_words.ensures, add-sub_cancel_left, add-zero)
+returns c = simp (c.copy_from_slice.ensures.after, add-sub_cancel_left, add-zero)

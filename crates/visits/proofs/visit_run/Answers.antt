@@ -7,8 +7,8 @@ use Rattle.stores.proofs.Stores.{sized-kept}
 use borrow.Author.Rules.{rules}
 use Rattle.visits.proofs.visit_run.Goals as goal
 
-pub first_at-end-requires : goal.first_at-end-requires
-first_at-end-requires c = (c.requires.0.lined, c.requires.2)
+pub first_at-i-end-requires : goal.first_at-i-end-requires
+first_at-i-end-requires c = (c.requires.0.lined, c.requires.2)
 
 pub first_at-i-requires : goal.first_at-i-requires
 first_at-i-requires c = (c.requires.0.lined, omega (arith, c.requires.1, c.requires.2))
@@ -20,7 +20,7 @@ pub visit_line-requires : goal.visit_line-requires
 visit_line-requires c = let p = c.requires in
     let w = c.loop-i in
     let f = c.first_at-i.ensures.0 in
-    let g = c.first_at-end.ensures in (
+    let g = c.first_at-i-end.ensures in (
       w.invariant.0,
       omega (arith, c.loop-i-test.true, g.1),
       p.3 _ (run-low _ p.0.lined _ _ _ _ f g.0 w.i w.invariant.1) (run-high _ p.0.lined _ _ _ _ f g.0 w.i c.loop-i-test.true),
@@ -30,5 +30,5 @@ pub loop-i-preserved : goal.loop-i-preserved
 loop-i-preserved c = (search (rules, sized-kept), search rules, search rules, search rules, c.loop-i.invariant.4 ∙ search (rules, sweep-more))
 
 pub returns : goal.returns
-returns c = run-swept-by _ c.requires.0.lined _ _ _ _ c.first_at-i.ensures.0 c.first_at-end.ensures.0 _ _ _
+returns c = run-swept-by _ c.requires.0.lined _ _ _ _ c.first_at-i.ensures.0 c.first_at-i-end.ensures.0 _ _ _
     (sym (c.loop-i.invariant.4 ∙ search (rules, sweep-end)))

@@ -10,7 +10,4 @@ use Rattle.visits.proofs.visit_run.Given as goal
 abbrev pub invariant-loop-i : goal.invariant-loop-i
 invariant-loop-i l =
     Sized l.s l.records l.cache l.memory × (l.initial.i ≤ l.i) × (length l.records ≡ length l.initial.records) × (length l.memory ≡ length l.initial.memory)
-    × (sweep (visited l.s l.v) (l.end - l.initial.i) l.initial.i (store l.initial.records l.cache l.initial.memory) ≡ sweep (visited l.s l.v) (l.end - l.i) l.i (store l.records l.cache l.memory))
-
-abbrev pub decreases-loop-i : goal.decreases-loop-i
-decreases-loop-i l = l.end - l.i
+    × (sweep (visited l.s l.v) (l.i-end - l.initial.i) l.initial.i (store l.initial.records l.cache l.initial.memory) ≡ sweep (visited l.s l.v) (l.i-end - l.i) l.i (store l.records l.cache l.memory))
