@@ -16,7 +16,7 @@ use Rattle.line_bytes.specs.Bytes.{zeros}
 use Rattle.machine.specs.Boards.{Board, fits_board}
 use Rattle.machine.specs.Refusals.{by_table}
 use Rattle.machine.specs.Lists.{Asked, asks_from, answered, one_by_one, listed, list_done, user_accesses}
-use Rattle.promises.specs.Runs.{some_moment, Call, user, supervisor, Reply, reply, step, after}
+use Rattle.promises.specs.Runs.{some_moment, Call, user, supervisor, Reply, reply, step}
 use Rattle.promises.specs.Demand3.{holds, holds_for_writing, at_some_moment, replies_to, moves_of, handed_by}
 use Rattle.promises.specs.Brought.{bringing, brought_next, brought_at_some_moment, brought_without_others, brought_handed_lines, BroughtMovesAlike, brought_replies_to}
 use Rattle.promises.specs.Values.{as_user, asks}

@@ -21,7 +21,6 @@ use Rattle.machine.specs.Accesses.{slot_word_at, user_global, user_rows}
 use Rattle.machine.proofs.Tables.{Passed}
 use Rattle.machine.proofs.Alignments.{aligned-inside}
 use Rattle.promises.specs.Plain.{Plain, plain_row1, address_frame, address_mapped}
-use Rattle.promises.specs.Runs.{tag}
 use Rattle.promises.specs.Demand3.{word_holds, word_writes_to, some_slot, holds, holds_for_writing, segment_of_page}
 use Rattle.page_laws.proofs.Maps.{Mapped, mapped-frame, found_at}
 use Rattle.promises.proofs.Shapes.{PlainShaped, plain-shaped}

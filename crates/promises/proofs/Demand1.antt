@@ -1,7 +1,7 @@
 -- Demand 1, from one law of rising tables: the first row that applies is the lowest, and what a table gives is
 -- either the refusal of that row or, where no row applies, what is done. Stands on the laws of `machine` only.
 use Rattle.std.specs.Prelude.{Some, None, Option}
-use Prim.Native.Nat.{ℕ, zero, suc, ◌%◌, ◌≤◌}
+use Prim.Native.Nat.{ℕ, suc, ◌%◌, ◌≤◌}
 use mathlib.Core.Path.{◌≡◌, refl, subst}
 use mathlib.Core.Bool.{Bool, true, false, not, ◌&&◌, ◌||◌, cond}
 use mathlib.Core.List.{List, [], ◌∷◌}

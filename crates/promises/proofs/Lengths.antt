@@ -15,7 +15,7 @@ use Rattle.board.specs.Shapes.{set_lines}
 use Rattle.board.specs.declared.Shape.{Shape}
 use Rattle.board.specs.declared.Pending.{Pending}
 use Rattle.board.proofs.Bools.{cond_both}
-use Rattle.stores.specs.Stores.{Store, store, written_back, filled, noted, inserted, performed_at, Performed}
+use Rattle.stores.specs.Stores.{Store, written_back, filled, noted, inserted, performed_at, Performed}
 use Rattle.lines.specs.Victims.{Uses, used_in}
 use Rattle.visits.specs.Visits.{map_visit, unmap_visit, protect_visit, move_visit, flush_visit, visited_all}
 use Rattle.stores.specs.declared.Access.{Access}

@@ -22,7 +22,6 @@ use Rattle.board.specs.Homes.{at_line}
 use Rattle.board.specs.declared.Shape.{Shape}
 use Rattle.board.proofs.Bools.{and_left, and_right, or-false}
 use Rattle.line_bytes.specs.Bytes.{number, stored}
-use Rattle.stores.specs.Stores.{store}
 use Rattle.lines.proofs.Sets.{victim-set, victim-inside}
 use Rattle.reach.specs.Reach.{way_of, unreached, may_write}
 use Rattle.stores.specs.declared.Access.{Access}
