@@ -2,7 +2,7 @@
 use Rattle.std.specs.Prelude.{Option, None}
 use Prim.Native.Nat.{ℕ, ◌+◌, ◌-◌, ◌*◌, ◌≤◌, ◌<◌}
 use mathlib.Core.Path.{◌≡◌, ◌∙◌, refl, ap}
-use mathlib.Core.Bool.{Bool, true, false, not, ◌&&◌, cond}
+use mathlib.Core.Bool.{Bool, true, false, not, ◌&&◌, ◌||◌, cond}
 use mathlib.Core.List.{List, [], ◌∷◌}
 use borrow.Author.Tests.{eq-eqb, eqb-true}
 use lib.Dec.{eqb}
@@ -89,6 +89,11 @@ module _ (s : Shape) (words records cache memory : List ℕ) (i : ℕ) (l : Line
     pub stale-held : (r : Bool) → l.changed ≡ false → r ≡ same_list (line_of cache i) (line_of memory l.physical) → not r ≡ stale s x i
     unfolding stale holds_at
     stale-held r d q = rw (← e, ← h, y, d, q)
+
+pub breaks-either : (s : Shape) (home : ℕ → Option Home) (x : Store) (i : ℕ) (a b : Bool) → a ≡ astray s home x i → b ≡ stale s x i
+    → (a || b) ≡ breaks_alone s home x i
+unfolding breaks_alone
+breaks-either s home x i a b e f = rw (e, f)
 
 -- ---- keys of places
 

@@ -4,7 +4,6 @@ use Rattle.dumps.proofs.Checks.{one-sized, one-words, one-frames, one-lines, roo
 use Rattle.repairs.proofs.Mended.{board-unfit, board-mended, board-short, board-works, no_room, no-flags}
 use borrow.Author.Rules.{rules}
 use Rattle.repairs.proofs.repair.Goals as goal
-use Rattle.repairs.proofs.repair.Goals.{then-has_room+else-dropped-s, else-has_room}
 
 pub has_room-requires : goal.has_room-requires
 has_room-requires c = (search (rules, one-frames), search (rules, one-lines))
@@ -36,14 +35,25 @@ returns-then-dropped-s c = λ tag. let a = c.args in
       scratch_kept = λ n. board-works a.s a.slots.now a.words.now a.records.now a.cache.now a.memory.now a.dropped.now _ _ _ f t _ g u c.if-dropped-s.true n;
     }
 
-pub returns-then-fits : goal.returns-then-fits
-returns-then-fits c = λ tag. let a = c.args in
+pub returns-else-dropped-s : goal.returns-else-dropped-s
+returns-else-dropped-s c = λ tag. let a = c.args in
     let f = c.fits.ensures in
     let t = c.if-fits.true in
     let g = c.has_room.ensures in
     record {
       rest_kept = refl;
-      outcome_is = board-short a.s a.slots.now a.words.now a.records.now a.cache.now a.memory.now a.dropped.now _ _ _ f t _ g tag _ (elim c.if-has_room.branch [ then-has_room+else-dropped-s w ↦ search (rules, no-flags) | else-has_room w ↦ search (rules, no_room) ]) (search rules);
+      outcome_is = board-short a.s a.slots.now a.words.now a.records.now a.cache.now a.memory.now a.dropped.now _ _ _ f t _ g tag _ (search (rules, no-flags)) (search rules);
+      scratch_kept = λ n. search rules;
+    }
+
+pub returns-else-has_room : goal.returns-else-has_room
+returns-else-has_room c = λ tag. let a = c.args in
+    let f = c.fits.ensures in
+    let t = c.if-fits.true in
+    let g = c.has_room.ensures in
+    record {
+      rest_kept = refl;
+      outcome_is = board-short a.s a.slots.now a.words.now a.records.now a.cache.now a.memory.now a.dropped.now _ _ _ f t _ g tag _ (search (rules, no_room)) (search rules);
       scratch_kept = λ n. search rules;
     }
 

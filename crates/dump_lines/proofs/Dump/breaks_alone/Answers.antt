@@ -1,7 +1,7 @@
 -- `breaks_alone` is rule 4 or rule 5.
-use Rattle.dump_lines.specs.Lines.{breaks_alone}
+use borrow.Author.Rules.{rules}
+use Rattle.dump_lines.proofs.Lines.{breaks-either}
 use Rattle.dump_lines.proofs.Dump.breaks_alone.Goals as goal
 
 pub returns : goal.returns
-unfolding breaks_alone
-returns c = rw (c.is_astray-astray.ensures, c.is_stale-stale.ensures)
+returns c = search (rules, breaks-either)
