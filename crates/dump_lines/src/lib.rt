@@ -6,10 +6,8 @@ ghost use Rattle.std.specs.Prelude.{◌≡◌, None, ◌+◌, ◌*◌, ◌≤◌
 ghost use Rattle.address.specs.Layout.{line_bytes, page_lines};
 ghost use Rattle.board.specs.Searches.{first};
 ghost use Rattle.board.specs.Shapes.{max_frames};
-ghost use Rattle.pages.specs.Pages.{home_of};
 ghost use Rattle.line_bytes.specs.Bytes.{line_of};
 ghost use Rattle.stores.specs.Premises.{Sized};
-ghost use Rattle.stores.specs.Stores.{store as store_of};
 ghost use Rattle.doubles.specs.Doubles.{keys_of};
 ghost use Rattle.dump_pages.specs.Pages.{doubled_page};
 ghost use Rattle.dump_lines.specs.Lines.{same_list, astray, stale, breaks_alone, doubled_line};
@@ -66,10 +64,12 @@ fn same_line(a: &[u8], i: usize, b: &[u8], j: usize) -> bool
 }
 
 impl<'a> Dump<'a> {
+    ghost use Rattle.dump_lines.specs.Dumped.{homes_in, store_in};
+
     // Record `i` holds a line that is not at home: rule 4.
     fn is_astray(&self, i: usize) -> bool
         requires { i < self.now.shape.lines }
-        ensures { result ≡ astray self.now.shape (home_of self.now.shape self.now.words.now) (store_of self.now.records.now self.now.cache.now self.now.memory.now) i }
+        ensures { result ≡ astray self.now.shape (homes_in self.now) (store_in self.now) i }
     {
         let l = lines::line_at(self.records, i);
         if lines::holds(self.shape, i, l) {
@@ -81,7 +81,7 @@ impl<'a> Dump<'a> {
     // Record `i` holds an unchanged line that differs from memory: rule 5.
     fn is_stale(&self, i: usize) -> bool
         requires { i < self.now.shape.lines }
-        ensures { result ≡ stale self.now.shape (store_of self.now.records.now self.now.cache.now self.now.memory.now) i }
+        ensures { result ≡ stale self.now.shape (store_in self.now) i }
     {
         let l = lines::line_at(self.records, i);
         if lines::holds(self.shape, i, l) {
@@ -95,7 +95,7 @@ impl<'a> Dump<'a> {
 
     // The lowest place whose line breaks rule 4.
     pub fn lowest_astray(&self) -> Option<usize>
-        ensures { result ≡ first (astray self.now.shape (home_of self.now.shape self.now.words.now) (store_of self.now.records.now self.now.cache.now self.now.memory.now)) 0 self.now.shape.lines }
+        ensures { result ≡ first (astray self.now.shape (homes_in self.now) (store_in self.now)) 0 self.now.shape.lines }
     {
         for i in 0..self.shape.lines {
             if self.is_astray(i) {
@@ -107,7 +107,7 @@ impl<'a> Dump<'a> {
 
     // The lowest place whose line breaks rule 5.
     pub fn lowest_stale(&self) -> Option<usize>
-        ensures { result ≡ first (stale self.now.shape (store_of self.now.records.now self.now.cache.now self.now.memory.now)) 0 self.now.shape.lines }
+        ensures { result ≡ first (stale self.now.shape (store_in self.now)) 0 self.now.shape.lines }
     {
         for i in 0..self.shape.lines {
             if self.is_stale(i) {
@@ -120,7 +120,7 @@ impl<'a> Dump<'a> {
     // Record `i` holds a line that breaks a rule alone.
     fn breaks_alone(&self, i: usize) -> bool
         requires { i < self.now.shape.lines }
-        ensures { result ≡ breaks_alone self.now.shape (home_of self.now.shape self.now.words.now) (store_of self.now.records.now self.now.cache.now self.now.memory.now) i }
+        ensures { result ≡ breaks_alone self.now.shape (homes_in self.now) (store_in self.now) i }
     {
         let astray = self.is_astray(i);
         let stale = self.is_stale(i);
@@ -130,7 +130,7 @@ impl<'a> Dump<'a> {
     // One more than the physical line that record `i` holds, 0 if it holds none; with `fine`, 0 too for a line that breaks a rule alone.
     fn place_key(&self, fine: bool, i: usize) -> u64
         requires { i < self.now.shape.lines }
-        ensures { result ≡ place_key fine self.now.shape (home_of self.now.shape self.now.words.now) (store_of self.now.records.now self.now.cache.now self.now.memory.now) i }
+        ensures { result ≡ place_key fine self.now.shape (homes_in self.now) (store_in self.now) i }
     {
         let l = lines::line_at(self.records, i);
         if lines::holds(self.shape, i, l) {
@@ -147,7 +147,7 @@ impl<'a> Dump<'a> {
     // The key of every place.
     pub fn place_keys(&self, fine: bool, keys: &mut [u64])
         requires { length keys.old ≡ self.now.shape.lines }
-        ensures { keys.new ≡ keys_of (place_key fine self.now.shape (home_of self.now.shape self.now.words.now) (store_of self.now.records.now self.now.cache.now self.now.memory.now)) (length keys.old) }
+        ensures { keys.new ≡ keys_of (place_key fine self.now.shape (homes_in self.now) (store_in self.now)) (length keys.old) }
     {
         for (i, key) in keys.iter_mut().enumerate() {
             *key = self.place_key(fine, i);

@@ -4,9 +4,9 @@
 ghost use Rattle.std.specs.Prelude.{◌≡◌, false, Some, ◌*◌, ◌≤◌, length};
 ghost use Rattle.board.specs.Shapes.{max_frames, max_lines};
 ghost use Rattle.board.specs.declared.Pending.{Pending};
-ghost use Rattle.pages.specs.Pages.{home_of};
 ghost use Rattle.stores.specs.Premises.{Sized};
 ghost use Rattle.stores.specs.Stores.{store as store_of};
+ghost use Rattle.dump_lines.specs.Dumped.{homes_in, store_in};
 ghost use Rattle.dumps.specs.Checks.{report, too_short, from_rule2, from_rule3, from_rule4, room_for};
 ghost use Rattle.dumps.specs.Results.{number_of, report_of, check_report, repair_report};
 ghost use Rattle.dumps.specs.Clauses.{Check};
@@ -166,7 +166,7 @@ pub fn has_room(s: Shape, keys: usize, links: usize) -> bool
 
 // Rules 4 and 5: each held line is at home, and equals memory if it is unchanged.
 fn check_alone(dump: &Dump) -> Option<Broken>
-    ensures { report_of result ≡ from_rule4 dump.now.shape (home_of dump.now.shape dump.now.words.now) (store_of dump.now.records.now dump.now.cache.now dump.now.memory.now) }
+    ensures { report_of result ≡ from_rule4 dump.now.shape (homes_in dump.now) (store_in dump.now) }
 {
     match dump.lowest_astray() {
         Some(place) => Some(Broken::new(Rule::AtHome, place)),
@@ -180,7 +180,7 @@ fn check_alone(dump: &Dump) -> Option<Broken>
 // Rule 3, then 4 and 5: no physical line is held twice.
 pub fn check_lines(dump: &Dump, keys: &mut [u64], links: &mut [u64]) -> Option<Broken>
     requires { (dump.now.shape.lines ≤ length keys.old) × (2 * dump.now.shape.lines ≤ length links.old) }
-    ensures { report_of result ≡ from_rule3 dump.now.shape (home_of dump.now.shape dump.now.words.now) (store_of dump.now.records.now dump.now.cache.now dump.now.memory.now) }
+    ensures { report_of result ≡ from_rule3 dump.now.shape (homes_in dump.now) (store_in dump.now) }
 {
     let lines = dump.shape.lines;
     match dump.doubled_line(&mut keys[0..lines], links) {

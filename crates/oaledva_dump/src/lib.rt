@@ -15,11 +15,11 @@ use board::Shape;
 use dumps::Report;
 
 // Where number, rule and count stand in a report's number; the place stands below them.
-const NUMBER_UNIT: u64 = 72057594037927936;
+const NUMBER_UNIT: u64 = 1 << 56;
 
-const RULE_UNIT: u64 = 281474976710656;
+const RULE_UNIT: u64 = 1 << 48;
 
-const DROPPED_UNIT: u64 = 16777216;
+const DROPPED_UNIT: u64 = 1 << 24;
 
 // A report as one number.
 fn packed_report(r: Report) -> u64

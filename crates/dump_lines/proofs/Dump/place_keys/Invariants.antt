@@ -2,8 +2,7 @@
 use Prim.Native.Nat.{ℕ, ◌<◌}
 use mathlib.Core.Path.{◌≡◌}
 use lib.ListN.{get_or}
-use Rattle.pages.specs.Pages.{home_of}
-use Rattle.stores.specs.Stores.{store}
+use Rattle.dump_lines.specs.Dumped.{homes_in, store_in}
 use Rattle.dump_lines.specs.Tests.{place_key}
 use Rattle.dump_lines.proofs.Dump.place_keys.Given as goal
 
@@ -11,4 +10,4 @@ abbrev pub invariant-loop-i : goal.invariant-loop-i
 invariant-loop-i l =
     (k : ℕ) → k < l.i
     → get_or l.keys k 0
-    ≡ place_key l.fine l.self.shape (home_of l.self.shape l.self.words.now) (store l.self.records.now l.self.cache.now l.self.memory.now) k
+    ≡ place_key l.fine l.self.shape (homes_in l.self) (store_in l.self) k
