@@ -1,13 +1,16 @@
 -- What the checker says, rule after rule.
-use Rattle.std.specs.Prelude.{Option, Some, None}
+use Rattle.std.specs.Prelude.{Option, Some, None, Result}
+use Rattle.std.specs.Result.{is_err}
 use Prim.Native.Nat.{ℕ, ◌*◌, ◌≤◌}
-use mathlib.Core.Path.{◌≡◌, ◌∙◌, sym, refl}
+use mathlib.Core.Path.{◌≡◌, ◌∙◌, sym, refl, ap}
 use mathlib.Core.Bool.{Bool, true, false, ◌&&◌}
 use mathlib.Core.List.{List, []}
 use lib.ListN.{length}
 use lib.Dec.{leb}
 use borrow.Author.Tests.{leb-true}
 use Rattle.board.specs.Shapes.{fits_shape, max_frames, max_lines}
+use Rattle.board.specs.Refusals.{fit}
+use Rattle.board.specs.declared.Refusal.{Refusal}
 use Rattle.board.specs.declared.Shape.{Shape}
 use Rattle.board.specs.declared.Pending.{Pending}
 use Rattle.board.proofs.Bools.{clash, and_left, and_right}
@@ -30,6 +33,22 @@ module _ (rule : ℕ) (found target : Option ℕ) (later : Report) (e : found �
 -- a search that finds nothing
 pub none-by : (found target : Option ℕ) → found ≡ target → found ≡ None → target ≡ None
 none-by found target e k = sym e ∙ k
+
+-- the lengths fit or not, by whether `fit` gave an error
+module _ (b t : Bool) (k : Result Unit Refusal) (e : k ≡ fit b) (q : t ≡ is_err k) where
+  pub fits-by : t ≡ false → true ≡ b
+  fits-by h = go b (sym h ∙ q ∙ ap is_err e)
+    where
+      go : (u : Bool) → false ≡ is_err (fit u) → true ≡ u
+      go true z = refl
+      go false z = clash false z refl
+
+  pub unfit-by : t ≡ true → false ≡ b
+  unfit-by h = go b (sym h ∙ q ∙ ap is_err e)
+    where
+      go : (u : Bool) → true ≡ is_err (fit u) → false ≡ u
+      go true z = clash true refl z
+      go false z = refl
 
 -- what an accepted shape gives, where there are no matrices
 module _ (s : Shape) (slots w r c m : List ℕ) (t : Bool) (f : t ≡ fits_shape s (length slots) (length w) (length r) (length c) (length m) 0) (h : t ≡ true) where

@@ -231,19 +231,11 @@ pub fn check(
 ) -> Result<Option<Broken>, ScratchTooShort>
     ensures { (tag : Pending) → Check s (board slots.now words.now records.now cache.now memory.now tag) (lent keys.old keys.new) (lent links.old links.new) (check_report result) }
 {
-    if board::fits(
-        s,
-        slots.len(),
-        words.len(),
-        records.len(),
-        cache.len(),
-        memory.len(),
-        0,
-    ) {
-        if has_room(s, keys.len(), links.len()) {
-            return Ok(check_pages(s, words, records, cache, memory, keys, links));
-        }
+    if s.fit(slots, words, records, cache, memory, &[]).is_err() {
+        return Ok(Some(Broken::new(Rule::Lengths, 0)));
+    }
+    if !has_room(s, keys.len(), links.len()) {
         return Err(ScratchTooShort);
     }
-    Ok(Some(Broken::new(Rule::Lengths, 0)))
+    Ok(check_pages(s, words, records, cache, memory, keys, links))
 }
