@@ -143,24 +143,17 @@ pub fn repair(
 ) -> Result<Mended, ScratchTooShort>
     ensures { (tag : Pending) → Repair s (board slots.now words.now records.old cache.now memory.now tag) (lent keys.old keys.new) (lent links.old links.new) (lent dropped.old dropped.new) (repair_report result) (board slots.now words.now records.new cache.now memory.now tag) }
 {
-    if board::fits(
-        s,
-        slots.len(),
-        words.len(),
-        records.len(),
-        cache.len(),
-        memory.len(),
-        0,
-    ) {
-        if dumps::has_room(s, keys.len(), links.len()) {
-            if dropped.len() == s.lines {
-                return Ok(mend_pages(s, words, records, cache, memory, keys, links, dropped));
-            }
-        }
+    if s.fit(slots, words, records, cache, memory, &[]).is_err() {
+        return Ok(Mended {
+            broken: Some(Broken::new(Rule::Lengths, 0)),
+            dropped: 0,
+        });
+    }
+    if !dumps::has_room(s, keys.len(), links.len()) {
         return Err(ScratchTooShort);
     }
-    Ok(Mended {
-        broken: Some(Broken::new(Rule::Lengths, 0)),
-        dropped: 0,
-    })
+    if dropped.len() != s.lines {
+        return Err(ScratchTooShort);
+    }
+    Ok(mend_pages(s, words, records, cache, memory, keys, links, dropped))
 }
