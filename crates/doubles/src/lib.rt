@@ -35,8 +35,8 @@ fn seek(keys: &[u64], links: &[u64], i: usize) -> Spot
     Spot::Taken(node)
 }
 
-// Puts place `i` into the tree of the places below it, unless it has no key or a lower place has its key. Gives that lower place, else `i`. A place in
-// either case, and no Option: callers ask only whether it is `i`, or the lower of it and another.
+// Puts place `i` into the tree of the places below it, unless it has no key or a lower place has its key. Gives that lower place, else `i`:
+// a place either way, and no Option, since callers ask only whether it is `i`, or for the lower of it and another.
 pub fn place(keys: &[u64], links: &mut [u64], i: usize) -> usize
     requires { Tree keys.now links.old i × (i < length keys.now) × (2 * length keys.now ≤ length links.old) }
     ensures { Placed keys.now links.old links.new i result }

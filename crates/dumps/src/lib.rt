@@ -157,7 +157,8 @@ impl From<Result<Mended, ScratchTooShort>> for Report {
 }
 
 // The scratch has a key for each frame and each place, and two links for each key.
-// Keys and links stay two slices, as C lends them: each rule cuts the keys to its own length, so a struct of both would be made anew at each call.
+// Keys and links stay two slices, as C lends them: each rule cuts the keys to its own length, so a struct of both would be made anew at
+// each call.
 pub fn has_room(s: Shape, keys: usize, links: usize) -> bool
     requires { (s.frames ≤ max_frames) × (s.lines ≤ max_lines) }
     ensures { result ≡ room_for s keys links }
