@@ -1,5 +1,5 @@
 -- The lowest place whose key a higher place has too: what a walk over the places knows of it.
-use Rattle.std.specs.Prelude.{Some, None}
+use Rattle.std.specs.Prelude.{Some, None, min}
 use Prim.Native.Nat.{ℕ, zero, suc, ◌+◌, ◌-◌, ◌≤◌, ◌<◌}
 use mathlib.Core.Path.{◌≡◌, ◌∙◌, sym, refl}
 use mathlib.Core.Bool.{Bool, true, false, not, ◌||◌}
@@ -8,12 +8,12 @@ use mathlib.Core.List.{List}
 use native.Mathlib.Omega.{arith}
 use lib.Dec.{eqb}
 use lib.ListN.{length, get_or}
-use borrow.Author.Tests.{eq-eqb, ne_eqb, eqb-true, eqb-false, not-true, lt-ltb, le-ltb}
+use borrow.Author.Tests.{eq-eqb, ne_eqb, eqb-true, eqb-false, not-true}
 use Rattle.board.proofs.Bools.{clash, and_left, and_right, or_right}
 use Rattle.board.specs.Searches.{first}
 use Rattle.board.proofs.Searches.{first-is, first-none}
 use Rattle.doubles.specs.Doubles.{stands, repeats}
-use Rattle.doubles.specs.Trees.{Placed, lower_of}
+use Rattle.doubles.specs.Trees.{Placed}
 use Rattle.doubles.proofs.Lists.{lt-or-le, eq-or-not}
 
 module _ (keys : List ℕ) (key : ℕ) where
@@ -110,11 +110,15 @@ module _ (keys before after : List ℕ) (best i at : ℕ) (b : Best keys best i)
     again = b.again;
   }
 
-  pub best-more : (next : ℕ) → next ≡ lower_of best at i → Best keys next (i + 1)
-  best-more next e = rw e (⊎_elim
-      (λ l. ⊎_elim (λ m. rw (lt-ltb at i l, lt-ltb at best m) (lower-found l m)) (λ m. rw (lt-ltb at i l, le-ltb at best m) (higher-found l m)) (lt-or-le at best))
-      (λ l. rw (le-ltb at i l) (none_found l))
-      (lt-or-le at i))
+  -- a lower place has the key, or none has it
+  pub best-lower : (next : ℕ) → at < i → next ≡ min best at → Best keys next (i + 1)
+  best-lower next l e = ⊎_elim
+      (λ m. let q : next ≡ at = omega arith in rw q (lower-found l m))
+      (λ m. let q : next ≡ best = omega arith in rw q (higher-found l m))
+      (lt-or-le at best)
+
+  pub best-same : (next : ℕ) → i ≤ at → next ≡ best → Best keys next (i + 1)
+  best-same next l e = rw e (none_found l)
 
 module _ (keys : List ℕ) (best i : ℕ) (b : Best keys best i) (h : length keys ≤ i) where
   below-best : (k : ℕ) → k < best → repeats keys k ≡ false

@@ -8,9 +8,10 @@ use borrow.Author.Tests.{eq-eqb, ne_eqb}
 use mathlib.Core.List.{List}
 use native.Mathlib.Omega.{arith}
 use borrow.Author.Count.{below_more}
-use lib.ListN.{length, get_or, set, length-set}
+use lib.ListN.{length, get_or, set, length-set, get_or-eq_default, replicate}
+use Rattle.std.proofs.lemmas.List.{get_or-replicate, length-replicate}
 use lib.Seq.{get_or-set_same, get_or-set_other}
-use Rattle.doubles.proofs.Lists.{eq-or-not}
+use Rattle.doubles.proofs.Lists.{eq-or-not, lt-or-le}
 use Rattle.doubles.specs.Trees.{slot_of, Reaches, here, on, Reached, rest_after, Turned, start, turn, SameBits, Hangs, Tree, Ended, Stands, Sought, Placed}
 use Rattle.doubles.proofs.Turns.{turned-depth, turned-bits}
 use Rattle.doubles.specs.declared.Spot.{Spot}
@@ -109,14 +110,20 @@ pub at-start : (keys links : List ℕ) (i : ℕ) → 1 ≤ i → At keys links i
 at-start keys links i pos = record { its_key = refl; below = omega arith; falls = λ r. r; comes = λ more x r. r; turns = 0; turned = start; rest_is = start-rest (get_or keys i 0) }
 
 -- links that are all open are an empty tree
-pub tree-empty : (keys links : List ℕ) → ((k : ℕ) → get_or links k 0 ≡ 0) → Tree keys links 0
-tree-empty keys links z = record {
-  rising = λ slot h. absurd (h (z slot));
+pub tree-empty : (keys links : List ℕ) (n : ℕ) → links ≡ replicate n 0 → Tree keys links 0
+tree-empty keys links n e = record {
+  rising = λ slot h. absurd (h (bare slot));
   complete = λ g h. absurd (omega arith);
   depth = λ g. 0;
   root = refl;
-  hangs = λ slot h. absurd (h (z slot));
+  hangs = λ slot h. absurd (h (bare slot));
 }
+  where
+    bare : (k : ℕ) → get_or links k 0 ≡ 0
+    bare k = rw e (⊎_elim
+        (λ l. get_or-replicate n k 0 0 l)
+        (λ l. get_or-eq_default (replicate n 0) 0 (rw (length-replicate {A = ℕ} n 0) l))
+        (lt-or-le k n))
 
 module _ (keys links : List ℕ) (i : ℕ) (tree : Tree keys links i) where
   -- one more place that the search finds, over more links; `depth` says how deep each place hangs then

@@ -1,7 +1,7 @@
 -- The tree of places: what the code inside asks of its callers. No promise needs these, but for how often a search turns (`Turns`).
 -- Each place has two links, to higher places; 0 is an open link. The search for a key goes from place 0, by the key's bits from the lowest up,
 -- to the place that has the key.
-use Rattle.std.specs.Prelude.{ℕ, zero, suc, ◌+◌, ◌*◌, ◌/◌, ◌%◌, ◌≤◌, ◌<◌, ◌≡◌, ◌≢◌, ◌&&◌, cond, List, ltb, length, get_or, set}
+use Rattle.std.specs.Prelude.{ℕ, zero, suc, ◌+◌, ◌*◌, ◌/◌, ◌%◌, ◌≤◌, ◌<◌, ◌≡◌, ◌≢◌, List, length, get_or, set}
 use Rattle.doubles.specs.declared.Spot.{Spot}
 use Rattle.doubles.specs.declared.Spot.TheVariants.{Taken, Open}
 
@@ -73,7 +73,3 @@ pub record Placed (keys before after : List ℕ) (i r : ℕ) : Type 0 where
   pub at_most : r ≤ i
   pub lower : r < i → (get_or keys r 0 ≡ get_or keys i 0) × (get_or keys i 0 ≢ 0)
   pub first : r ≡ i → (g : ℕ) → g < i → get_or keys g 0 ≡ get_or keys i 0 → get_or keys i 0 ≡ 0
-
--- the lower of two places, where the second counts only below i
-abbrev pub lower_of : ℕ → ℕ → ℕ → ℕ
-lower_of best at i = cond (ltb at i && ltb at best) at best

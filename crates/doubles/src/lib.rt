@@ -2,28 +2,17 @@
 // each, in words that the caller lends. A search turns once for each bit of its key at most.
 #![tactic(auto)]
 
-ghost use Rattle.std.specs.Prelude.{◌≡◌, ℕ, ◌+◌, ◌*◌, ◌≤◌, ◌<◌, length, get_or};
-ghost use Rattle.doubles.specs.Trees.{Tree, Sought, Placed, lower_of};
+ghost use Rattle.std.specs.Prelude.{◌≡◌, ◌*◌, ◌≤◌, ◌<◌, length};
+ghost use Rattle.doubles.specs.Trees.{Tree, Sought, Placed};
 ghost use Rattle.board.specs.Searches.{first};
 ghost use Rattle.doubles.specs.Doubles.{repeats};
 
-
-// Where the search for a key ends: at a place that has the key, or at an open link.
+// Where the search for a key ends: at a place that has the key, or at an open link. An enum of its own, as std's `Entry` with its
+// occupied and vacant places: a `Result<usize, usize>` would not say which of its two numbers is a place and which a link.
 #[derive(Clone, Copy)]
 pub enum Spot {
     Taken(usize),
     Open(usize),
-}
-
-// Makes every link open.
-fn clear(links: &mut [u64])
-    ensures { (length links.new ≡ length links.old) × ((k : ℕ) → get_or links.new k 0 ≡ 0) }
-{
-    let mut i: usize = 0;
-    while i < links.len() {
-        links[i] = 0;
-        i += 1;
-    }
 }
 
 // Searches the tree of the places below `i` for the key of place `i`.
@@ -46,7 +35,8 @@ fn seek(keys: &[u64], links: &[u64], i: usize) -> Spot
     Spot::Taken(node)
 }
 
-// Puts place `i` into the tree of the places below it, unless it has no key or a lower place has its key. Gives that lower place, else `i`.
+// Puts place `i` into the tree of the places below it, unless it has no key or a lower place has its key. Gives that lower place, else `i`:
+// a place either way, and no Option, since callers ask only whether it is `i`, or for the lower of it and another.
 pub fn place(keys: &[u64], links: &mut [u64], i: usize) -> usize
     requires { Tree keys.now links.old i × (i < length keys.now) × (2 * length keys.now ≤ length links.old) }
     ensures { Placed keys.now links.old links.new i result }
@@ -70,19 +60,7 @@ pub fn place(keys: &[u64], links: &mut [u64], i: usize) -> usize
 pub fn plant(keys: &[u64], links: &mut [u64])
     ensures { (length links.new ≡ length links.old) × Tree keys.now links.new 0 }
 {
-    clear(links);
-}
-
-// The lower of two places, where the second counts only below `i`.
-fn lower_of(best: usize, at: usize, i: usize) -> usize
-    ensures { result ≡ lower_of best at i }
-{
-    if at < i {
-        if at < best {
-            return at;
-        }
-    }
-    best
+    links.fill(0);
 }
 
 // The lowest place whose key a higher place has too, with two links for each key.
@@ -92,11 +70,11 @@ fn double_in(keys: &[u64], links: &mut [u64]) -> Option<usize>
 {
     plant(keys, links);
     let mut best = keys.len();
-    let mut i: usize = 0;
-    while i < keys.len() {
+    for i in 0..keys.len() {
         let at = place(keys, links, i);
-        best = lower_of(best, at, i);
-        i += 1;
+        if at < i {
+            best = best.min(at);
+        }
     }
     if best < keys.len() {
         return Some(best);

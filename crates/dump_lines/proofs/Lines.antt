@@ -1,13 +1,14 @@
 -- Rules 3 to 5, record by record: what the code's tests and keys are; two lines compared byte by byte.
 use Rattle.std.specs.Prelude.{Option, None}
-use Prim.Native.Nat.{ℕ, ◌+◌, ◌*◌, ◌≤◌, ◌<◌}
-use mathlib.Core.Path.{◌≡◌, ◌∙◌, sym, refl}
+use Prim.Native.Nat.{ℕ, ◌+◌, ◌-◌, ◌*◌, ◌≤◌, ◌<◌}
+use mathlib.Core.Path.{◌≡◌, ◌∙◌, refl, ap}
 use mathlib.Core.Bool.{Bool, true, false, not, ◌&&◌, ◌||◌, cond}
 use mathlib.Core.List.{List, [], ◌∷◌}
-use native.Mathlib.Omega.{arith}
-use borrow.Author.Tests.{eq-eqb, ne_eqb, eqb-true}
+use borrow.Author.Tests.{eq-eqb, eqb-true}
 use lib.Dec.{eqb}
-use lib.ListN.{length, get_or}
+use lib.ListN.{length, take, drop}
+use lib.Pointwise.{pointwise}
+use native.Mathlib.Nat.{add-sub_cancel_left}
 use Rattle.address.specs.Layout.{page_lines}
 use Rattle.pages.specs.Pages.{home_of}
 use Rattle.board.specs.Searches.{first}
@@ -15,17 +16,17 @@ use Rattle.board.specs.Shapes.{max_frames}
 use Rattle.board.specs.declared.Shape.{Shape}
 use Rattle.board.specs.declared.Home.{Home}
 use Rattle.board.proofs.Bools.{clash, and_left, and_right}
+use Rattle.board.specs.Lists.{part}
 use Rattle.line_bytes.specs.Bytes.{line_of}
 use Rattle.lines.specs.Records.{line_at}
 use Rattle.lines.specs.Holds.{holds_line, holds_at}
 use Rattle.lines.specs.declared.Line.{Line}
 use Rattle.stores.specs.Stores.{Store, store}
-use Rattle.store_laws.proofs.Bytes.{line-ext, line-at}
 use Rattle.doubles.specs.Doubles.{repeats, keys_of}
 use Rattle.doubles.proofs.Keys.{searched}
 use Rattle.dump_pages.specs.Pages.{doubled_page}
 use Rattle.dump_lines.specs.Lines.{same_list, held_line, doubled_line, at_home, astray, stale, breaks_alone}
-use Rattle.dump_lines.specs.Tests.{in_frame, line_breaks, place_key}
+use Rattle.dump_lines.specs.Tests.{in_frame, place_key}
 use Rattle.dump_lines.proofs.Homes.{frame-tells}
 
 -- ---- two lines
@@ -45,52 +46,54 @@ unfolding same_list
 list_same [] = refl
 list_same (x ∷ xs) = rw (eq-eqb x x refl) (list_same xs)
 
-module _ (a b : List ℕ) (i j : ℕ) where
-  pub same-line-all : 16 * i + 16 ≤ length a → 16 * j + 16 ≤ length b → (n : ℕ) → 16 ≤ n → ((k : ℕ) → k < n → get_or a (16 * i + k) 0 ≡ get_or b (16 * j + k) 0)
-      → true ≡ same_list (line_of a i) (line_of b j)
-  same-line-all x y n h all = rw (line-ext a b i j x y (λ k g. all k (omega arith))) (sym (list_same (line_of b j)))
+-- the library's comparison of two slices
+pointwise-same : (xs ys : List ℕ) → pointwise eqb xs ys ≡ same_list xs ys
+unfolding same_list
+pointwise-same [] [] = refl
+pointwise-same [] (y ∷ ys) = refl
+pointwise-same (x ∷ xs) [] = refl
+pointwise-same (x ∷ xs) (y ∷ ys) = ap (λ t. eqb x y && t) (pointwise-same xs ys)
 
-  pub same-line-not : (k : ℕ) → k < 16 → (get_or a (16 * i + k) 0 ≡ get_or b (16 * j + k) 0 → ⊥) → false ≡ same_list (line_of a i) (line_of b j)
-  same-line-not k h n = go (same_list (line_of a i) (line_of b j)) refl
-    where
-      go : (t : Bool) → same_list (line_of a i) (line_of b j) ≡ t → false ≡ t
-      go true e = absurd (n (line-at a b i j k (same_list_lem (line_of a i) (line_of b j) e) h))
-      go false e = refl
+pub lines-same : (a b : List ℕ) (i j : ℕ) (r : Bool)
+    → r ≡ pointwise eqb (take (16 * i + 16 - 16 * i) (drop (16 * i) a)) (take (16 * j + 16 - 16 * j) (drop (16 * j) b)) → r ≡ same_list (line_of a i) (line_of b j)
+unfolding line_of part
+lines-same a b i j r e =
+    (rw (add-sub_cancel_left (16 * i) 16, add-sub_cancel_left (16 * j) 16) at e) ∙ pointwise-same (take 16 (drop (16 * i) a)) (take 16 (drop (16 * j) b))
 
 -- ---- a record against rules 4 and 5
 
-module _ (rule : ℕ) (s : Shape) (words records cache memory : List ℕ) (i : ℕ) (l : Line) (e : l ≡ line_at records i) (t : Bool) (h : t ≡ holds_line s i l) where
+module _ (s : Shape) (words records cache memory : List ℕ) (i : ℕ) (l : Line) (e : l ≡ line_at records i) (t : Bool) (h : t ≡ holds_line s i l) where
   abbrev x : Store
   x = store records cache memory
 
-  pub broken-none : t ≡ false → false ≡ line_breaks rule s (home_of s words) x i
-  unfolding line_breaks astray stale holds_at
-  broken-none y = rw (← e, ← h, y) (go (eqb rule 4))
-    where
-      go : (u : Bool) → false ≡ cond u false false
-      go true = refl
-      go false = refl
+  pub astray-none : t ≡ false → false ≡ astray s (home_of s words) x i
+  unfolding astray holds_at
+  astray-none y = rw (← e, ← h, y)
 
-  pub broken-astray : (r : Bool) → t ≡ true → rule ≡ 4 → r ≡ in_frame s words l → length words ≡ s.frames → s.frames ≤ max_frames → l.physical < page_lines * s.frames
-      → doubled_page s words ≡ None → not r ≡ line_breaks rule s (home_of s words) x i
-  unfolding line_breaks astray holds_at
-  broken-astray r y q f size few inside d =
+  pub astray-held : (r : Bool) → t ≡ true → r ≡ in_frame s words l → length words ≡ s.frames → s.frames ≤ max_frames → l.physical < page_lines * s.frames
+      → doubled_page s words ≡ None → not r ≡ astray s (home_of s words) x i
+  unfolding astray holds_at
+  astray-held r y f size few inside d =
       let a : r ≡ at_home (home_of s words) l = f ∙ frame-tells s words l size few inside d in
-      rw (eq-eqb rule 4 q, ← e, ← h, y, a)
+      rw (← e, ← h, y, a)
 
-  module _ (y : t ≡ true) (n : rule ≡ 4 → ⊥) where
-    pub broken-changed : l.changed ≡ true → false ≡ line_breaks rule s (home_of s words) x i
-    unfolding line_breaks stale holds_at
-    broken-changed d = rw (ne_eqb rule 4 n, ← e, ← h, y, d)
+  pub stale-none : t ≡ false → false ≡ stale s x i
+  unfolding stale holds_at
+  stale-none y = rw (← e, ← h, y)
 
-    pub broken-stale : (r : Bool) → l.changed ≡ false → r ≡ same_list (line_of cache i) (line_of memory l.physical) → not r ≡ line_breaks rule s (home_of s words) x i
-    unfolding line_breaks stale holds_at
-    broken-stale r d q = rw (ne_eqb rule 4 n, ← e, ← h, y, d, q)
+  module _ (y : t ≡ true) where
+    pub stale-changed : l.changed ≡ true → false ≡ stale s x i
+    unfolding stale holds_at
+    stale-changed d = rw (← e, ← h, y, d)
 
-module _ (s : Shape) (home : ℕ → Option Home) (x : Store) (i : ℕ) where
-  pub breaks-either : (a b : Bool) → a ≡ line_breaks 4 s home x i → b ≡ line_breaks 5 s home x i → (a || b) ≡ breaks_alone s home x i
-  unfolding line_breaks breaks_alone
-  breaks-either a b e f = rw (e, f)
+    pub stale-held : (r : Bool) → l.changed ≡ false → r ≡ same_list (line_of cache i) (line_of memory l.physical) → not r ≡ stale s x i
+    unfolding stale holds_at
+    stale-held r d q = rw (← e, ← h, y, d, q)
+
+pub breaks-either : (s : Shape) (home : ℕ → Option Home) (x : Store) (i : ℕ) (a b : Bool) → a ≡ astray s home x i → b ≡ stale s x i
+    → (a || b) ≡ breaks_alone s home x i
+unfolding breaks_alone
+breaks-either s home x i a b e f = rw (e, f)
 
 -- ---- keys of places
 

@@ -1,7 +1,6 @@
 -- 02, CR 13, rules 3 to 5: no physical line is held twice; each held line's physical line is the one its name maps to, with that page's permission;
 -- every unchanged held line equals memory. What a name maps to is any map of homes.
 use Rattle.std.specs.Prelude.{ℕ, ◌+◌, Bool, true, false, not, ◌&&◌, ◌||◌, cond, List, [], ◌∷◌, eqb, Option, Some, None}
-use Rattle.board.specs.Homes.{at_line}
 use Rattle.board.specs.declared.Shape.{Shape}
 use Rattle.board.specs.declared.Home.{Home}
 use Rattle.line_bytes.specs.Bytes.{line_of}

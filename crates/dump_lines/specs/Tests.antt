@@ -7,7 +7,7 @@ use Rattle.board.specs.declared.Home.{Home}
 use Rattle.pages.specs.Pages.{word_writes}
 use Rattle.lines.specs.declared.Line.{Line}
 use Rattle.stores.specs.Stores.{Store}
-use Rattle.dump_lines.specs.Lines.{same_bit, held_line, astray, stale, breaks_alone}
+use Rattle.dump_lines.specs.Lines.{same_bit, held_line, breaks_alone}
 
 -- the frame of a line's physical line, and its word
 abbrev pub own_frame : Line → ℕ
@@ -24,10 +24,6 @@ in_frame s words l =
     (eqb (own_word words l % 2) 1 && (eqb (own_word words l / 4) (l.name / page_lines) && (eqb (l.name % page_lines) (l.physical % page_lines)
     && same_bit (word_writes (own_word words l)) l.write)))
     (eqb (own_word words l) 0 && (eqb l.name (prefix_lines + l.physical) && l.write))
-
--- record i breaks rule 4, or rule 5
-unfoldable pub line_breaks : ℕ → Shape → (ℕ → Option Home) → Store → ℕ → Bool
-line_breaks rule s home x i = cond (eqb rule 4) (astray s home x i) (stale s x i)
 
 -- the key of place i; with `fine`, only of a line that breaks no rule alone
 unfoldable pub place_key : Bool → Shape → (ℕ → Option Home) → Store → ℕ → ℕ

@@ -6,7 +6,7 @@ ghost use Rattle.doubles.specs.Doubles.{keys_of};
 ghost use Rattle.dump_pages.specs.Pages.{page_at, doubled_page};
 
 use address::ordinary_page;
-use board::{Shape};
+use board::Shape;
 
 // The ordinary page that the word of a frame from U up names; 0 if there is none.
 fn page_at(s: Shape, words: &[u64], f: usize) -> u64
@@ -30,10 +30,8 @@ fn page_keys(s: Shape, words: &[u64], keys: &mut [u64])
     requires { length keys.old ≡ length words.now }
     ensures { keys.new ≡ keys_of (page_at s words.now) (length keys.old) }
 {
-    let mut f: usize = 0;
-    while f < keys.len() {
-        keys[f] = page_at(s, words, f);
-        f += 1;
+    for (f, key) in keys.iter_mut().enumerate() {
+        *key = page_at(s, words, f);
     }
 }
 

@@ -28,7 +28,7 @@ use Rattle.dump_pages.specs.Pages.{page_in, page_at}
 use Rattle.dump_lines.specs.Lines.{held_line, breaks_alone}
 use Rattle.dump_lines.specs.Tests.{place_key}
 use Rattle.dumps.specs.declared.Report.{Report}
-use Rattle.dumps.specs.Checks.{report, too_short, checked, check_call}
+use Rattle.dumps.specs.Checks.{too_short, checked, check_call}
 use Rattle.dumps.specs.Clauses.{Kept, Check}
 use Rattle.repairs.specs.Repairs.{Repaired, repair_outcome, repair_board, repair_call}
 use Rattle.repairs.specs.Clauses.{Repair}

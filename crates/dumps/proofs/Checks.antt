@@ -1,26 +1,24 @@
 -- What the checker says, rule after rule.
-use Rattle.std.specs.Prelude.{Option, Some, None}
+use Rattle.std.specs.Prelude.{Option, Some, None, Result}
+use Rattle.std.specs.Result.{is_err}
 use Prim.Native.Nat.{ℕ, ◌*◌, ◌≤◌}
-use mathlib.Core.Path.{◌≡◌, ◌∙◌, sym, refl}
+use mathlib.Core.Path.{◌≡◌, ◌∙◌, sym, refl, ap}
 use mathlib.Core.Bool.{Bool, true, false, ◌&&◌}
 use mathlib.Core.List.{List, []}
 use lib.ListN.{length}
 use lib.Dec.{leb}
 use borrow.Author.Tests.{leb-true}
-use Rattle.board.specs.Searches.{first}
 use Rattle.board.specs.Shapes.{fits_shape, max_frames, max_lines}
+use Rattle.board.specs.Refusals.{fit}
+use Rattle.board.specs.declared.Refusal.{Refusal}
 use Rattle.board.specs.declared.Shape.{Shape}
 use Rattle.board.specs.declared.Pending.{Pending}
-use Rattle.board.specs.declared.Home.{Home}
 use Rattle.board.proofs.Bools.{clash, and_left, and_right}
-use Rattle.board.proofs.Searches.{first-same}
-use Rattle.stores.specs.Stores.{Store, store}
+use Rattle.stores.specs.Stores.{store}
 use Rattle.stores.specs.Premises.{Sized}
 use Rattle.machine.specs.Boards.{board}
 use Rattle.machine.proofs.Fits.{fit-sized, fit_words, fit-frames, fit-lines}
-use Rattle.dump_lines.specs.Lines.{astray, stale}
-use Rattle.dump_lines.specs.Tests.{line_breaks}
-use Rattle.dumps.specs.Checks.{report, yes, too_short, or_else, from_rule2, from_rule4, checked, room_for, check_call}
+use Rattle.dumps.specs.Checks.{report, too_short, or_else, from_rule2, checked, room_for, check_call}
 use Rattle.dumps.specs.declared.Report.{Report}
 
 module _ (rule : ℕ) (found target : Option ℕ) (later : Report) (e : found ≡ target) where
@@ -36,25 +34,21 @@ module _ (rule : ℕ) (found target : Option ℕ) (later : Report) (e : found �
 pub none-by : (found target : Option ℕ) → found ≡ target → found ≡ None → target ≡ None
 none-by found target e k = sym e ∙ k
 
--- rules 4 and 5, one after the other
-module _ (s : Shape) (home : ℕ → Option Home) (x : Store) (found : Option ℕ) (e : found ≡ first (line_breaks 4 s home x) 0 s.lines) where
-  by_4 : found ≡ first (astray s home x) 0 s.lines
-  unfolding line_breaks
-  by_4 = e ∙ first-same (astray s home x) (line_breaks 4 s home x) (λ k. refl) 0 s.lines
+-- the lengths fit or not, by whether `fit` gave an error
+module _ (b t : Bool) (k : Result Unit Refusal) (e : k ≡ fit b) (q : t ≡ is_err k) where
+  pub fits-by : t ≡ false → true ≡ b
+  fits-by h = go b (sym h ∙ q ∙ ap is_err e)
+    where
+      go : (u : Bool) → false ≡ is_err (fit u) → true ≡ u
+      go true z = refl
+      go false z = clash false z refl
 
-  pub alone-astray : (i : ℕ) (r : Report) → found ≡ Some i → r ≡ report 4 i → r ≡ from_rule4 s home x
-  alone-astray i r k q = or_at 4 found _ _ by_4 i r k q
-
-  module _ (k : found ≡ None) (next : Option ℕ) (f : next ≡ first (line_breaks 5 s home x) 0 s.lines) where
-    by-5 : next ≡ first (stale s x) 0 s.lines
-    unfolding line_breaks
-    by-5 = f ∙ first-same (stale s x) (line_breaks 5 s home x) (λ k. refl) 0 s.lines
-
-    pub alone-stale : (i : ℕ) (r : Report) → next ≡ Some i → r ≡ report 5 i → r ≡ from_rule4 s home x
-    alone-stale i r n q = or_later 4 found _ _ by_4 r k (or_at 5 next _ _ by-5 i r n q)
-
-    pub alone-fine : (r : Report) → next ≡ None → r ≡ yes → r ≡ from_rule4 s home x
-    alone-fine r n q = or_later 4 found _ _ by_4 r k (or_later 5 next _ _ by-5 r n q)
+  pub unfit-by : t ≡ true → false ≡ b
+  unfit-by h = go b (sym h ∙ q ∙ ap is_err e)
+    where
+      go : (u : Bool) → true ≡ is_err (fit u) → false ≡ u
+      go true z = clash true refl z
+      go false z = refl
 
 -- what an accepted shape gives, where there are no matrices
 module _ (s : Shape) (slots w r c m : List ℕ) (t : Bool) (f : t ≡ fits_shape s (length slots) (length w) (length r) (length c) (length m) 0) (h : t ≡ true) where
@@ -104,9 +98,9 @@ module _ (s : Shape) (slots w r c m : List ℕ) (keys links : ℕ) (t : Bool) (f
     unfolding check_call checked
     call-done tag a k q = rw (← f, h, ← g, k, q)
 
-    pub call-short : (tag : Pending) (a : Report) → u ≡ false → a ≡ too_short → a ≡ check_call s (board slots w r c m tag) keys links
+    pub call-short : (tag : Pending) → u ≡ false → too_short ≡ check_call s (board slots w r c m tag) keys links
     unfolding check_call
-    call-short tag a k q = rw (← f, h, ← g, k, q)
+    call-short tag k = rw (← f, h, ← g, k)
 
     -- with both tests passed the scratch may change
     pub call-works : {A : Type 0} → u ≡ true → (fits_shape s (length slots) (length w) (length r) (length c) (length m) 0 && room_for s keys links) ≡ false → A

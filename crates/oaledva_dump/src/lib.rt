@@ -15,11 +15,11 @@ use board::Shape;
 use dumps::Report;
 
 // Where number, rule and count stand in a report's number; the place stands below them.
-const NUMBER_UNIT: u64 = 72057594037927936;
+const NUMBER_UNIT: u64 = 1 << 56;
 
-const RULE_UNIT: u64 = 281474976710656;
+const RULE_UNIT: u64 = 1 << 48;
 
-const DROPPED_UNIT: u64 = 16777216;
+const DROPPED_UNIT: u64 = 1 << 24;
 
 // A report as one number.
 fn packed_report(r: Report) -> u64
@@ -49,15 +49,9 @@ pub extern "C" fn oaledva_check(
 ) -> u64
     ensures { (tag : Pending) → Check (one_line frames uncached processes lines) (board slots.now words.now records.now cache.now memory.now tag) (lent keys.old keys.new) (lent links.old links.new) (unpacked result) }
 {
-    let s = Shape {
-        frames: frames,
-        uncached: uncached,
-        processes: processes,
-        lines: lines,
-        ways: 1,
-    };
-    let r = dumps::check(s, slots, words, records, cache, memory, keys, links);
-    packed_report(r)
+    let s = Shape::one_line(frames, uncached, processes, lines);
+    let found = dumps::check(s, slots, words, records, cache, memory, keys, links);
+    packed_report(Report::from(found))
 }
 
 // Repairs a board, and flags the lines that it dropped.
@@ -78,15 +72,9 @@ pub extern "C" fn oaledva_repair(
 ) -> u64
     ensures { (tag : Pending) → Repair (one_line frames uncached processes lines) (board slots.now words.now records.old cache.now memory.now tag) (lent keys.old keys.new) (lent links.old links.new) (lent dropped.old dropped.new) (unpacked result) (board slots.now words.now records.new cache.now memory.now tag) }
 {
-    let s = Shape {
-        frames: frames,
-        uncached: uncached,
-        processes: processes,
-        lines: lines,
-        ways: 1,
-    };
-    let r = repairs::repair(
+    let s = Shape::one_line(frames, uncached, processes, lines);
+    let mended = repairs::repair(
         s, slots, words, records, cache, memory, keys, links, dropped,
     );
-    packed_report(r)
+    packed_report(Report::from(mended))
 }

@@ -2,7 +2,8 @@
 use Rattle.std.specs.Prelude.{Option}
 use Prim.Native.Nat.{ℕ, ◌+◌, ◌*◌, ◌-◌, ◌≤◌, ◌<◌}
 use mathlib.Core.Path.{◌≡◌, ◌∙◌, sym, refl, ap}
-use mathlib.Core.Bool.{Bool, true, not, ◌&&◌}
+use mathlib.Core.Bool.{Bool, true, false, not, ◌&&◌}
+use mir.Val.{bool_byte}
 use mathlib.Core.List.{List}
 use native.Mathlib.Nat.{sub-zero}
 use native.Mathlib.Omega.{arith}
@@ -21,6 +22,15 @@ use Rattle.dump_lines.specs.Tests.{place_key}
 use Rattle.repairs.specs.Repairs.{mended, repaired, dropped_at, how_many, dropped_flags, dropped_count}
 use Rattle.repairs.specs.Steps.{kept_at, mended_to}
 use Rattle.repairs.proofs.Repairs.{Mending, mending-start, mending-more, keys-sized, Flagged, flagged-start, flagged-low, flagged-more}
+
+-- a bit turned into a number, as the library does it
+pub from-bit : (b : Bool) (n : ℕ) → n ≡ bool_byte b → n ≡ bit b
+from-bit true n e = e
+from-bit false n e = e
+
+pub bit_low : (b : Bool) (n : ℕ) → n ≡ bool_byte b → n ≤ 1
+bit_low true n e = omega arith
+bit_low false n e = omega arith
 
 pub record Going (s : Shape) (home : ℕ → Option Home) (r₀ c m keys links₀ r links flags : List ℕ) (count i : ℕ) : Type 0 where
   pub at_most : i ≤ s.lines
@@ -60,10 +70,10 @@ module _ (s : Shape) (home : ℕ → Option Home) (r₀ c m keys links₀ r link
   pub going-count : count ≤ i
   going-count = flagged-low s r₀ r flags i count g.flagged
 
-  pub going_more : (links₁ r₁ : List ℕ) (at : ℕ) (keep gone : Bool) (flag : ℕ) → i < s.lines → Placed keys links links₁ i at → keep ≡ kept_at (get_or keys i 0) at i
+  going-one : (links₁ r₁ : List ℕ) (at : ℕ) (keep gone : Bool) (flag : ℕ) → i < s.lines → Placed keys links links₁ i at → keep ≡ kept_at (get_or keys i 0) at i
       → r₁ ≡ mended_to s i keep r → gone ≡ (holds_at s r i && not keep) → flag ≡ bit gone
       → Going s home r₀ c m keys links₀ r₁ links₁ (set flags i flag) (count + flag) (i + 1)
-  going_more links₁ r₁ at keep gone flag h p e q d f =
+  going-one links₁ r₁ at keep gone flag h p e q d f =
       let more = mending-more s home r₀ c m keys r s.lines i g.keys_are g.records_length h g.mending links links₁ at p r₁ keep e q in
       record {
         at_most = omega arith;
@@ -78,6 +88,12 @@ module _ (s : Shape) (home : ℕ → Option Home) (r₀ c m keys links₀ r link
         flagged = flagged-more s r₀ r flags i count keep gone flag g.flagged (g.mending.rest i (omega arith)) (going-record h) (omega (arith, g.flags_length)) d f r₁ q;
         whole = g.whole ∙ sweep-more (mended s home) s.lines i (store r c m) (store r₁ c m) more.1 h;
       }
+
+  -- the flag, and the same bit counted
+  pub going_more : (links₁ r₁ : List ℕ) (at : ℕ) (keep gone : Bool) (flag n : ℕ) → i < s.lines → Placed keys links links₁ i at
+      → keep ≡ kept_at (get_or keys i 0) at i → r₁ ≡ mended_to s i keep r → gone ≡ (holds_at s r i && not keep) → flag ≡ bit gone → n ≡ bit gone
+      → Going s home r₀ c m keys links₀ r₁ links₁ (set flags i flag) (count + n) (i + 1)
+  going_more links₁ r₁ at keep gone flag n h p e q d f z = rw (z ∙ sym f) (going-one links₁ r₁ at keep gone flag h p e q d f)
 
   module _ (h : s.lines ≤ i) where
     end : i ≡ s.lines

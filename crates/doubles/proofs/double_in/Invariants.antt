@@ -1,5 +1,4 @@
 -- `double_in` walks the places: no place below `best` stands again among those passed.
-use Prim.Native.Nat.{◌-◌}
 use mathlib.Core.Path.{◌≡◌}
 use lib.ListN.{length}
 use Rattle.doubles.specs.Trees.{Tree}
@@ -8,6 +7,3 @@ use Rattle.doubles.proofs.double_in.Given as goal
 
 abbrev pub invariant-loop-i : goal.invariant-loop-i
 invariant-loop-i l = Tree l.keys l.links l.i × (length l.links ≡ length l.initial.links) × Best l.keys l.best l.i
-
-abbrev pub decreases-loop-i : goal.decreases-loop-i
-decreases-loop-i l = length l.keys - l.i

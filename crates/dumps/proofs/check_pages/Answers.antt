@@ -1,10 +1,7 @@
 -- `check_pages` is rule 2, then 3 to 5.
-use Rattle.dumps.proofs.Checks.{or_at, or_later, none-by}
+use Rattle.dumps.proofs.Checks.{or_at, or_later}
 use borrow.Author.Rules.{rules}
 use Rattle.dumps.proofs.check_pages.Goals as goal
-
-pub check_lines-requires : goal.check_lines-requires
-check_lines-requires c = (search rules, search rules, search (rules, none-by), search rules, search rules)
 
 pub returns-in-Some : goal.returns-in-Some
 returns-in-Some c = search (rules, or_at)

@@ -1,22 +1,52 @@
 -- `repair` asks the lengths, then what it works in, then repairs.
 use mathlib.Core.Path.{refl}
-use Rattle.dumps.proofs.Checks.{one-sized, one-words, one-frames, one-lines, room-frames, room-frame-links, room-lines, room-line-links}
+use mathlib.Core.Bool.{true, false}
+use Rattle.dumps.proofs.Checks.{fits-by, unfit-by, one-sized, one-words, one-frames, one-lines, room-frames, room-frame-links, room-lines, room-line-links}
 use Rattle.repairs.proofs.Mended.{board-unfit, board-mended, board-short, board-works, no_room, no-flags}
 use borrow.Author.Rules.{rules}
 use Rattle.repairs.proofs.repair.Goals as goal
-use Rattle.repairs.proofs.repair.Goals.{then-has_room+else-dropped-s, else-has_room}
+
+pub returns-then-is_err : goal.returns-then-is_err
+returns-then-is_err c = λ tag. let a = c.args in
+    let f = unfit-by _ _ _ c.fit.ensures c.is_err.ensures.value c.if-is_err.true in
+    record {
+      rest_kept = refl;
+      outcome_is = board-unfit a.s a.slots.now a.words.now a.records.now a.cache.now a.memory.now a.dropped.now _ _ false f tag _ refl c.new.ensures;
+      scratch_kept = λ n. search rules;
+    }
 
 pub has_room-requires : goal.has_room-requires
-has_room-requires c = (search (rules, one-frames), search (rules, one-lines))
+has_room-requires c = let a = c.args in
+    let f = fits-by _ _ _ c.fit.ensures c.is_err.ensures.value c.if-is_err.false in (
+      one-frames a.s a.slots.now a.words.now a.records.now a.cache.now a.memory.now true f refl,
+      one-lines a.s a.slots.now a.words.now a.records.now a.cache.now a.memory.now true f refl,
+    )
+
+pub returns-then-not-has_room : goal.returns-then-not-has_room
+returns-then-not-has_room c = λ tag. let a = c.args in
+    let f = fits-by _ _ _ c.fit.ensures c.is_err.ensures.value c.if-is_err.false in
+    record {
+      rest_kept = refl;
+      outcome_is = board-short a.s a.slots.now a.words.now a.records.now a.cache.now a.memory.now a.dropped.now _ _ true f refl _ c.has_room.ensures tag _ (no_room _ _ c.if-not-has_room.true) refl;
+      scratch_kept = λ n. search rules;
+    }
+
+pub returns-then-dropped-s : goal.returns-then-dropped-s
+returns-then-dropped-s c = λ tag. let a = c.args in
+    let f = fits-by _ _ _ c.fit.ensures c.is_err.ensures.value c.if-is_err.false in
+    record {
+      rest_kept = refl;
+      outcome_is = board-short a.s a.slots.now a.words.now a.records.now a.cache.now a.memory.now a.dropped.now _ _ true f refl _ c.has_room.ensures tag _ (search (rules, no-flags)) refl;
+      scratch_kept = λ n. search rules;
+    }
 
 pub mend_pages-requires : goal.mend_pages-requires
 mend_pages-requires c = let a = c.args in
-    let f = c.fits.ensures in
-    let t = c.if-fits.true in
+    let f = fits-by _ _ _ c.fit.ensures c.is_err.ensures.value c.if-is_err.false in
     let g = c.has_room.ensures in
-    let u = c.if-has_room.true in (
-      one-sized a.s a.slots.now a.words.now a.records.now a.cache.now a.memory.now _ f t,
-      one-words a.s a.slots.now a.words.now a.records.now a.cache.now a.memory.now _ f t,
+    let u = c.if-not-has_room.false in (
+      one-sized a.s a.slots.now a.words.now a.records.now a.cache.now a.memory.now true f refl,
+      one-words a.s a.slots.now a.words.now a.records.now a.cache.now a.memory.now true f refl,
       room-frames a.s _ _ _ g u,
       room-frame-links a.s _ _ _ g u,
       room-lines a.s _ _ _ g u,
@@ -24,28 +54,13 @@ mend_pages-requires c = let a = c.args in
       search rules,
     )
 
-pub returns-then-dropped-s : goal.returns-then-dropped-s
-returns-then-dropped-s c = λ tag. let a = c.args in
-    let f = c.fits.ensures in
-    let t = c.if-fits.true in
-    let g = c.has_room.ensures in
-    let u = c.if-has_room.true in
-    record {
-      rest_kept = refl;
-      outcome_is = board-mended a.s a.slots.now a.words.now a.records.now a.cache.now a.memory.now a.dropped.now _ _ _ f t _ g tag _ u c.if-dropped-s.true c.mend_pages.ensures;
-      scratch_kept = λ n. board-works a.s a.slots.now a.words.now a.records.now a.cache.now a.memory.now a.dropped.now _ _ _ f t _ g u c.if-dropped-s.true n;
-    }
-
-pub returns-then-fits : goal.returns-then-fits
-returns-then-fits c = λ tag. let a = c.args in
-    let f = c.fits.ensures in
-    let t = c.if-fits.true in
-    let g = c.has_room.ensures in
-    record {
-      rest_kept = refl;
-      outcome_is = board-short a.s a.slots.now a.words.now a.records.now a.cache.now a.memory.now a.dropped.now _ _ _ f t _ g tag _ (elim c.if-has_room.branch [ then-has_room+else-dropped-s w ↦ search (rules, no-flags) | else-has_room w ↦ search (rules, no_room) ]) (search rules);
-      scratch_kept = λ n. search rules;
-    }
-
 pub returns : goal.returns
-returns c = λ tag. record { rest_kept = refl; outcome_is = search (rules, board-unfit); scratch_kept = λ n. search rules }
+returns c = λ tag. let a = c.args in
+    let f = fits-by _ _ _ c.fit.ensures c.is_err.ensures.value c.if-is_err.false in
+    let g = c.has_room.ensures in
+    let u = c.if-not-has_room.false in
+    record {
+      rest_kept = refl;
+      outcome_is = board-mended a.s a.slots.now a.words.now a.records.now a.cache.now a.memory.now a.dropped.now _ _ true f refl _ g tag _ u (search rules) c.mend_pages.ensures;
+      scratch_kept = λ n. board-works a.s a.slots.now a.words.now a.records.now a.cache.now a.memory.now a.dropped.now _ _ true f refl _ g u (search rules) n;
+    }

@@ -1,15 +1,15 @@
--- `lowest_broken` looks from record to record: the search from `i` on is the whole.
+-- `lowest_astray` looks from record to record: the search from `i` on is the whole.
 use mathlib.Core.Path.{◌∙◌, sym}
 use native.Mathlib.Nat.{sub-zero}
-use Rattle.board.proofs.Searches.{first-here, first_more, first-end}
 use borrow.Author.Rules.{rules}
-use Rattle.dump_lines.proofs.lowest_broken.Goals as goal
+use Rattle.board.proofs.Searches.{first-here, first_more, first-end}
+use Rattle.dump_lines.proofs.Dump.lowest_astray.Goals as goal
 
 pub loop-i-init : goal.loop-i-init
 loop-i-init c = rw sub-zero
 
-pub returns-then-is_broken : goal.returns-then-is_broken
-returns-then-is_broken c = sym (c.loop-i.invariant ∙ search (rules, first-here))
+pub returns-then-is_astray : goal.returns-then-is_astray
+returns-then-is_astray c = sym (c.loop-i.invariant ∙ search (rules, first-here))
 
 pub loop-i-preserved : goal.loop-i-preserved
 loop-i-preserved c = c.loop-i.invariant ∙ search (rules, first_more)

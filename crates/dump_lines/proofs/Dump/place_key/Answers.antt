@@ -1,8 +1,8 @@
 -- `place_key` reads the physical line of a held record, if it is to count.
-use Rattle.dump_lines.proofs.Lines.{key-none, key-any, key-fine, key-broken}
 use borrow.Author.Rules.{rules}
-use Rattle.dump_lines.proofs.place_key.Goals as goal
-use Rattle.dump_lines.proofs.place_key.Goals.{then-fine+else-breaks_alone, else-fine}
+use Rattle.dump_lines.proofs.Lines.{key-none, key-any, key-fine, key-broken}
+use Rattle.dump_lines.proofs.Dump.place_key.Goals as goal
+use Rattle.dump_lines.proofs.Dump.place_key.Goals.{then-fine+else-breaks_alone, else-fine}
 
 pub returns-then-breaks_alone : goal.returns-then-breaks_alone
 returns-then-breaks_alone c = search (rules, key-broken)
