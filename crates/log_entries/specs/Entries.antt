@@ -1,6 +1,6 @@
 -- CR 1: "The log opens with F, U, P, L. Entries: kind 1 user access, 2 supervisor access, 3 attach, 4 detach, 5 map, 6 unmap, 7 protect, 8 flush all,
 -- 9 tag, 10 load-and-map, 11 drop tag, then the fields in the order of 01; load is 0 and store 1." CR 9: "Log kind 12", move.
-use Rattle.std.specs.Prelude.{ℕ, ◌-◌, ◌^◌, Bool, not, ◌&&◌, cond, List, [], ◌∷◌, ◌++◌, length, get_or, eqb, ltb, leb}
+use Rattle.std.specs.Prelude.{ℕ, ◌+◌, ◌-◌, ◌^◌, Bool, not, ◌&&◌, cond, List, [], ◌∷◌, ◌++◌, length, get_or, eqb, ltb, leb}
 use Rattle.log_numbers.specs.Numbers.{number_end}
 use Rattle.log_numbers.specs.Reasons.{reason_kind, reason_field}
 use Rattle.log_entries.specs.declared.Entry.{Entry}
@@ -81,10 +81,18 @@ entry_words = 6
 
 -- the fields, and all the words, as code has them
 abbrev pub five_of : Entry → List ℕ
-five_of e = e.first ∷ e.second ∷ e.third ∷ e.fourth ∷ e.fifth ∷ []
+five_of e = get_or e.fields 0 0 ∷ get_or e.fields 1 0 ∷ get_or e.fields 2 0 ∷ get_or e.fields 3 0 ∷ get_or e.fields 4 0 ∷ []
 
 abbrev pub words_of : Entry → List ℕ
 words_of e = e.kind ∷ five_of e
+
+-- the entry whose six words stand from i on
+abbrev pub entry_from : List ℕ → ℕ → Entry
+entry_from words i = record {
+  kind = get_or words i 0;
+  fields =
+      get_or words (i + 1) 0 ∷ get_or words (i + 2) 0 ∷ get_or words (i + 3) 0 ∷ get_or words (i + 4) 0 ∷ get_or words (i + 5) 0 ∷ [];
+}
 
 -- the words of a whole entry
 abbrev pub six_of : List ℕ → List ℕ

@@ -12,8 +12,7 @@ use borrow.Author.Tests.{lt-ltb, le-ltb, le-leb, lt-leb, eq-eqb, ne_eqb, eqb-tru
 use Rattle.board.specs.Lists.{splice}
 use Rattle.board.proofs.Bools.{clash, cond_both}
 use Rattle.log_numbers.specs.Reasons.{reason_padded, reason_tenth}
-use Rattle.log_numbers.specs.Numbers.{group_size, groups_before, groups_from, groups_of, take_byte, value_of}
-use Rattle.log_numbers.specs.declared.Taken.TheVariants.{More, Whole, Wrong}
+use Rattle.log_numbers.specs.Numbers.{group_size, groups_before, groups_from, groups_of, take_byte, More, Whole, Wrong, value_of}
 
 -- ---- what groups are worth
 

@@ -1,1 +1,2 @@
 pub mod Groups
+pub mod Reasons

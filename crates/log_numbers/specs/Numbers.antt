@@ -1,8 +1,6 @@
 -- CR 1: "The log is a run of numbers in variable-length groups of seven bits: low group first, top bit set on all groups but the last."
 use Rattle.std.specs.Prelude.{ℕ, zero, suc, ◌+◌, ◌*◌, ◌/◌, ◌%◌, ◌^◌, ◌≤◌, not, ◌&&◌, cond, List, [], ◌∷◌, ◌++◌, eqb, ltb, leb}
 use Rattle.log_numbers.specs.Reasons.{reason_padded, reason_tenth}
-use Rattle.log_numbers.specs.declared.Taken.{Taken}
-use Rattle.log_numbers.specs.declared.Taken.TheVariants.{More, Whole, Wrong}
 
 -- a group is a number below this; a byte from it up has its top bit set
 abbrev pub group_size : ℕ
@@ -32,6 +30,12 @@ bytes_of [] = []
 bytes_of (n ∷ ns) = groups_of n ++ bytes_of ns
 
 -- ---- read
+
+-- what a byte makes of a number: one more group (what they are worth then), or the last one (the number), or it is refused (why)
+pub data Taken : Type 0 where
+  More : ℕ → Taken
+  Whole : ℕ → Taken
+  Wrong : ℕ → Taken
 
 -- a byte after `groups` groups of a number, which are worth `sum`. It is one more group (More: what they are worth then), or the last
 -- one (Whole: the number), or it is refused (Wrong: why): a tenth byte above 1, a last group of 0 after others

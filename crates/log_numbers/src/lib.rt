@@ -4,21 +4,63 @@
 ghost use Rattle.std.specs.Prelude.{◌≡◌, ◌+◌, ◌≤◌, ◌<◌, ◌^◌, length};
 ghost use Rattle.board.specs.Lists.{splice};
 ghost use Rattle.log_numbers.specs.Numbers.{group_size, groups_before, groups_of, take_byte};
+ghost use Rattle.log_numbers.specs.Takes.{number_of, IsReasonOf, taken_of};
 
-// Why a log is refused, or an entry that is to be written.
-pub const NONE: u64 = 0;
+use std::error::Error;
+use std::fmt;
 
-pub const MISFIT: u64 = 1;
+// Why a log is refused, or an entry that is to be written, by its number for C.
+#[derive(Clone, Copy, Debug, PartialEq, Eq)]
+pub enum Reason {
+    Misfit = 1,
+    Padded = 2,
+    Tenth = 3,
+    Cut = 4,
+    Kind = 5,
+    Field = 6,
+}
 
-pub const PADDED: u64 = 2;
+impl Reason {
+    // Its number, which is never 0.
+    pub fn number(self) -> u64
+        ensures { result ≡ number_of self }
+    {
+        self as u64
+    }
+}
 
-pub const TENTH: u64 = 3;
+impl TryFrom<u64> for Reason {
+    type Error = Reason;
 
-pub const CUT: u64 = 4;
+    ghost try_from_gives = { IsReasonOf };
 
-pub const KIND: u64 = 5;
+    fn try_from(n: u64) -> Result<Self, Reason> {
+        match n {
+            1 => Ok(Reason::Misfit),
+            2 => Ok(Reason::Padded),
+            3 => Ok(Reason::Tenth),
+            4 => Ok(Reason::Cut),
+            5 => Ok(Reason::Kind),
+            6 => Ok(Reason::Field),
+            _ => Err(Reason::Misfit),
+        }
+    }
+}
 
-pub const FIELD: u64 = 6;
+impl fmt::Display for Reason {
+    fn fmt<W: fmt::Write>(&self, f: &mut fmt::Formatter<W>) -> fmt::Result {
+        f.write_str(match self {
+            Reason::Misfit => "buffers that don't fit, or words that are no reader's",
+            Reason::Padded => "a number's last group is 0 after others",
+            Reason::Tenth => "a number's tenth byte is above 1",
+            Reason::Cut => "the log is cut",
+            Reason::Kind => "a kind that is not known",
+            Reason::Field => "a field that is too large",
+        })
+    }
+}
+
+impl Error for Reason {}
 
 // A group is a number below this; a byte from it up has its top bit set.
 pub const GROUP: u64 = 128;
@@ -28,12 +70,11 @@ const GROUP_BITS: u64 = 7;
 // How many groups may stand before the last.
 pub const GROUPS_BEFORE: u64 = 9;
 
-// What a byte makes of a number: one more group (what the groups are worth then), the last one (the number), or it is refused (why).
-#[derive(Clone, Copy)]
+// What a byte makes of a number: one more group (what the groups are worth then), or the last one (the number).
+#[derive(Clone, Copy, Debug, PartialEq, Eq)]
 pub enum Taken {
     More(u64),
     Whole(u64),
-    Wrong(u64),
 }
 
 // What the lowest bit of a group is worth, after so many groups.
@@ -44,28 +85,22 @@ pub fn weight(groups: u64) -> u64
     1 << (GROUP_BITS * groups)
 }
 
-fn wide(x: u8) -> u64
-    ensures { result ≡ x }
-{
-    x as u64
-}
-
-// A byte after some groups of a number, which are worth `sum`.
-pub fn take_byte(groups: u64, sum: u64, b: u8) -> Taken
+// A byte after some groups of a number, which are worth `sum`. It may be refused: why.
+pub fn take_byte(groups: u64, sum: u64, b: u8) -> Result<Taken, Reason>
     requires { (groups ≤ groups_before) × (sum < group_size ^ groups) }
-    ensures { result ≡ take_byte groups sum b }
+    ensures { taken_of result ≡ take_byte groups sum b }
 {
-    let byte = wide(b);
+    let byte = u64::from(b);
     if (groups == GROUPS_BEFORE) & (1 < byte) {
-        return Taken::Wrong(TENTH);
+        return Err(Reason::Tenth);
     }
     if GROUP <= byte {
-        return Taken::More(sum + byte % GROUP * weight(groups));
+        return Ok(Taken::More(sum + byte % GROUP * weight(groups)));
     }
     if (groups != 0) & (byte == 0) {
-        return Taken::Wrong(PADDED);
+        return Err(Reason::Padded);
     }
-    Taken::Whole(sum + byte * weight(groups))
+    Ok(Taken::Whole(sum + byte * weight(groups)))
 }
 
 // Writes a number's bytes from `at` on, and says where they end.

@@ -1,7 +1,7 @@
 -- CR 1: a log of four calls and logs that are refused, computed; what is promised of the log, by the promises.
 use Prim.Native.Nat.{ℕ, ◌≤◌}
 use mathlib.Core.Path.{◌≡◌, refl}
-use mathlib.Core.List.{List}
+use mathlib.Core.List.{List, [], ◌∷◌}
 use native.Mathlib.Omega.{arith}
 use lib.ListN.{length}
 use borrow.Author.Tests.{le-ltb}
@@ -44,7 +44,7 @@ log-reads = rw log_is at (written-is-read.same_calls board calls board-fits all_
 
 -- whatever the buffer, if it has room
 load-not-written : (buffer : List ℕ) → entry_bytes ≤ length buffer
-    → write_entry (record { kind = 1; first = 0; second = 0; third = 4; fourth = 0; fifth = 7 }) buffer ≡ written (wrote 6 5) buffer
+    → write_entry (record { kind = 1; fields = 0 ∷ 0 ∷ 4 ∷ 0 ∷ 7 ∷ [] }) buffer ≡ written (wrote 6 5) buffer
 unfolding write_entry by_field first_wrong fields_of most most_of
 load-not-written buffer room = rw (le-ltb (length buffer) entry_bytes room)
 

@@ -12,7 +12,7 @@ use Rattle.board.proofs.Bools.{and-false}
 use Rattle.log_numbers.specs.Numbers.{group_size, groups_before, number_end, groups_of, take_byte, Groups, none, also, value_of}
 use Rattle.log_numbers.proofs.Groups.{take_more, take_last}
 use Rattle.log_numbers.specs.Reasons.{reason_padded, reason_tenth}
-use Rattle.log_numbers.specs.declared.Taken.TheVariants.{Wrong}
+use Rattle.log_numbers.specs.Numbers.{Wrong}
 use Rattle.log_entries.specs.Entries.{number_in}
 use Rattle.log_reader.specs.Reading.{state, Step, step_first, stepped, numbered, byte_in, Reading, reading, read_all}
 use Rattle.log_promises.proofs.Fits.{length-next}

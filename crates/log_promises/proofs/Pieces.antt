@@ -14,7 +14,7 @@ use Rattle.board.specs.Lists.{is_yes}
 use Rattle.board.proofs.Bools.{cond_both}
 use Rattle.log_numbers.specs.Numbers.{group_size, groups_before, take_byte}
 use Rattle.log_numbers.specs.Reasons.{reason_none, reason_padded, reason_tenth, reason_kind, reason_field}
-use Rattle.log_numbers.specs.declared.Taken.TheVariants.{More, Whole, Wrong}
+use Rattle.log_numbers.specs.Numbers.{More, Whole, Wrong}
 use Rattle.log_entries.specs.Entries.{growing, whole, improper, number_in, is_kind, is_whole, most}
 use Rattle.log_reader.specs.Reading.{State, fresh, Step, on, gives, numbered, taken, byte_in, Reading, reading, step_first, stepped, room_after, read_all, read_into, read_log, as_log, reason_of}
 use Rattle.log_promises.specs.Pieces.{Piece, Fed, in_pieces, joined, ample, fed_log, PiecesAreWhole}

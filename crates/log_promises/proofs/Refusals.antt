@@ -10,7 +10,7 @@ use lib.ListN.{length}
 use borrow.Author.Tests.{ne_eqb}
 use Rattle.log_numbers.specs.Numbers.{groups_before, groups_of, bytes_of, take_byte, Groups, value_of}
 use Rattle.log_numbers.specs.Reasons.{reason_padded, reason_tenth}
-use Rattle.log_numbers.specs.declared.Taken.TheVariants.{Wrong as Refuses}
+use Rattle.log_numbers.specs.Numbers.{Wrong as Refuses}
 use Rattle.log_reader.specs.Reading.{State, state, reading, read_all, byte_in, is_between, reason_of, place_of, as_log, read_log}
 use Rattle.log_promises.specs.Places.{Wrong, padded, tenth, unfit, cut, Refused}
 use Rattle.log_promises.proofs.NumbersRead.{take-padded, take-tenth, groups-read, number_read, refused-stays}

@@ -6,22 +6,19 @@ use mathlib.Core.List.{List, [], ◌∷◌, ◌++◌}
 use native.Mathlib.Omega.{arith}
 use lib.Dec.{eqb, ltb, leb}
 use lib.ListN.{length, get_or, take, length-take}
-use borrow.Author.Tests.{le-leb, lt-ltb, eqb-false}
+use borrow.Author.Tests.{le-leb, lt-ltb, eqb-false, leb-true, ltb-true}
 use Rattle.board.specs.Lists.{is_yes}
 use Rattle.board.proofs.Bools.{and_left, and_right, cond_both}
 use Rattle.log_numbers.specs.Numbers.{group_size, groups_before, take_byte}
-use Rattle.log_numbers.specs.declared.Taken.{Taken}
-use Rattle.log_numbers.specs.declared.Taken.TheVariants.{More, Whole, Wrong}
-use Rattle.log_entries.specs.Entries.{Entered, growing, whole, improper, number_in, is_kind, is_whole, most, fields_of, five_of, words_of, entry_words}
+use Rattle.log_numbers.specs.Numbers.{Taken, More, Whole, Wrong}
+use Rattle.log_entries.specs.Entries.{Entered, growing, whole, improper, number_in, is_kind, is_whole, most, fields_of, five_of, words_of, entry_words, entry_from}
 use Rattle.log_entries.specs.declared.Entry.{Entry}
 use Rattle.log_entries.proofs.Tables.{fields-few}
 use Rattle.log_reader.specs.Reading.{State, Step, on, gives, numbered, taken, byte_in, Reading, step_first, stepped, room_after, read_into}
 use Rattle.log_reader.specs.Readers.{state_of, laid_from}
-use Rattle.log_reader.specs.declared.Reader.{Reader}
 use Rattle.log_reader.proofs.Readers.{more-groups}
 use Rattle.log_writer.specs.Writing.{write_entry}
-use Rattle.oaledva_log.specs.States.{reader_words, reader_in, state_in, words_of_state, fresh_words, is_reason, may_read, is_reader, Read, reads_here, log_read, log_write}
-use Rattle.oaledva_log.proofs.States.{may-readable}
+use Rattle.oaledva_log.specs.States.{reader_words, word_at, stands, state_in, words_of_state, fresh_words, is_reason, may_read, is_reader, Read, reads_here, log_read, log_write}
 use Rattle.log_promises.specs.Words.{WordsStand}
 use Rattle.log_promises.proofs.Fits.{length-next}
 
@@ -44,31 +41,34 @@ part-words : (count : ℕ) (e : Entry) → count ≤ length (fields_of e.kind) �
 part-words zero e h = omega arith
 part-words (suc n) e h = omega (arith, h, length-take n (five_of e))
 
--- the last of five tests
-last_of : (t u v w x : Bool) → (t && (u && (v && (w && x)))) ≡ true → x ≡ true
-last_of t u v w x e = and_right w x (and_right v (w && x) (and_right u (v && (w && x)) (and_right t (u && (v && (w && x))) e)))
+-- what four tests say, each
+each_of : (t u v w : Bool) → (t && (u && (v && w))) ≡ true → (t ≡ true) × (u ≡ true) × (v ≡ true) × (w ≡ true)
+each_of t u v w e = (and_left t (u && (v && w)) e, and_left u (v && w) (and_right t (u && (v && w)) e), and_left v w (and_right u (v && w) (and_right t (u && (v && w)) e)), and_right v w (and_right u (v && w) (and_right t (u && (v && w)) e)))
 
--- the reason of a reader
-may-reason : (r : Reader) → may_read r ≡ true → is_reason r.reason ≡ true
-unfolding may_read
-may-reason r e =
-    last_of (leb r.groups groups_before) (leb r.groups r.at) (ltb r.sum (group_size ^ r.groups)) (leb r.count (length (fields_of r.entry.kind)))
-    (is_reason r.reason) e
-
--- a reader stands where one may
-may-stands : (r : Reader) → may_read r ≡ true → Stands (state_of r)
-may-stands r e =
-    let h = may-readable r e in
-    record { few = h.few; within = h.within; small = h.small; part = part-words r.count r.entry h.fields; known = may-reason r e }
+-- words that may be a reader's stand where one may
+may-stands : (words : List ℕ) → may_read words ≡ true → Stands (state_in words)
+unfolding may_read stands
+may-stands words e =
+    let here = stands (word_at words 0) (word_at words 1) (word_at words 2) (word_at words 3) (word_at words 4) in
+    let h : here ≡ true = and_left here (is_reason (word_at words 10)) e in
+    let t = each_of (leb (word_at words 1) groups_before) (leb (word_at words 1) (word_at words 0)) (ltb (word_at words 2) (group_size ^ word_at words 1))
+    (leb (word_at words 3) (length (fields_of (word_at words 4)))) h in
+    record {
+      few = leb-true (word_at words 1) groups_before t.0;
+      within = leb-true (word_at words 1) (word_at words 0) t.1;
+      small = ltb-true (word_at words 2) (group_size ^ word_at words 1) t.2;
+      part = part-words (word_at words 3) (entry_from words 4) (leb-true (word_at words 3) (length (fields_of (word_at words 4))) t.3);
+      known = and_right here (is_reason (word_at words 10)) e;
+    }
 
 -- words of a reader stand for one
 reader-stands : (words : List ℕ) → is_reader words ≡ true → Stands (state_in words)
 unfolding is_reader
-reader-stands words e = may-stands (reader_in words) (and_right (eqb (length words) reader_words) (may_read (reader_in words)) e)
+reader-stands words e = may-stands words (and_right (eqb (length words) reader_words) (may_read words) e)
 
 -- and the words of one that stands there are a reader's
 stands-words : (st : State) → Stands st → is_reader (words_of_state st) ≡ true
-unfolding is_reader may_read
+unfolding is_reader may_read stands
 stands-words st h =
     rw (
       le-leb st.groups groups_before h.few,
@@ -196,12 +196,12 @@ module _ (words piece entries : List ℕ) where
 
 -- fresh words
 fresh-reader : is_reader fresh_words ≡ true
-unfolding is_reader may_read is_reason fields_of
+unfolding is_reader may_read is_reason fields_of stands
 fresh-reader = refl
 
 -- six words are written as their entry
 words-written : (e : Entry) (bytes : List ℕ) → log_write (words_of e) bytes ≡ write_entry e bytes
-unfolding log_write
+unfolding log_write write_entry
 words-written e bytes = refl
 
 pub words-stand : WordsStand

@@ -16,7 +16,7 @@ use Rattle.board.proofs.Bools.{and_left, and_right, cond_both}
 use Rattle.log_numbers.proofs.Groups.{groups-room}
 use Rattle.log_numbers.specs.Numbers.{groups_before, bytes_of}
 use Rattle.log_numbers.specs.Reasons.{reason_none, reason_misfit, reason_kind, reason_field}
-use Rattle.log_entries.specs.Entries.{none, fields_by_kind, fields_of, most_of, most, five_of, words_of, six_of}
+use Rattle.log_entries.specs.Entries.{none, fields_by_kind, fields_of, most_of, most, entry_from, five_of, words_of, six_of}
 use Rattle.log_entries.specs.declared.Entry.{Entry}
 use Rattle.log_writer.specs.Writing.{first_wrong, numbers_of, entry_bytes, wrote, Written, written, by_field, write_entry}
 use Rattle.promises.specs.Runs.{Call, user, supervisor, access, attach, detach, map, unmap, protect, move, flush_all, tag, load_and_map, drop_tag}
@@ -121,7 +121,7 @@ fits-split kind five h =
 
 -- a list's first six as an entry
 abbrev entry_on : List ℕ → Entry
-entry_on l = record { kind = get_or l 0 0; first = get_or l 1 0; second = get_or l 2 0; third = get_or l 3 0; fourth = get_or l 4 0; fifth = get_or l 5 0 }
+entry_on l = entry_from l 0
 
 -- an entry of a known kind: the words after its fields are 0, and it stands in a log as these numbers
 data Shaped (es numbers : List ℕ) : Type 0 where
@@ -159,10 +159,11 @@ shaped-writes : (es numbers bytes : List ℕ) (e : Entry) → Shaped es numbers 
     → write_entry e bytes ≡ written (wrote reason_none (length (bytes_of numbers))) (splice bytes 0 (bytes_of numbers))
 unfolding write_entry by_field
 shaped-writes es numbers bytes e (shaped known as_fields five as-numbers) h w room =
-    let q : e ≡ entry_on es = ap entry_on w in
+    let k : e.kind ≡ get_or es 0 0 = ap (λ (l : List ℕ). get_or l 0 0) w in
+    let q : five_of e ≡ five_of (entry_on es) = ap (drop 1) w in
     let fits = shaped-fits es numbers (shaped known as_fields five as-numbers) ∙ h in
     let right = wrong-none (get_or es 0 0) [] (five_of (entry_on es)) fits (wrong_first _ _ _) in
-    rw (q, le-ltb (length bytes) entry_bytes room, known, right, as-numbers)
+    rw (k, q, le-ltb (length bytes) entry_bytes room, known, right, as-numbers)
 
 -- ---- how many bytes
 
@@ -252,9 +253,10 @@ ways-large (writes amount after _ _ f) room k h = absurd (h f)
 shaped-refuses : (es numbers bytes : List ℕ) (e : Entry) → Shaped es numbers → (entry_fits es ≡ true → ⊥) → words_of e ≡ six_of es → entry_bytes ≤ length bytes
     → WrongField e (write_entry e bytes).wrote
 shaped-refuses es numbers bytes e (shaped known as_fields five as-numbers) h w room =
-    let q : e ≡ entry_on es = ap entry_on w in
-    let same = ap (λ (x : Entry). fields_fit x.kind [] (five_of x)) q ∙ shaped-fits es numbers (shaped known as_fields five as-numbers) in
-    let below : e.kind < length fields_by_kind = rw q (ltb-true (get_or es 0 0) (length fields_by_kind) known) in
+    let k : e.kind ≡ get_or es 0 0 = ap (λ (l : List ℕ). get_or l 0 0) w in
+    let q : five_of e ≡ five_of (entry_on es) = ap (drop 1) w in
+    let same = ap₂ (λ (n : ℕ) (l : List ℕ). fields_fit n [] l) k q ∙ shaped-fits es numbers (shaped known as_fields five as-numbers) in
+    let below : e.kind < length fields_by_kind = rw k (ltb-true (get_or es 0 0) (length fields_by_kind) known) in
     ways-large (write-ways e bytes) room below (λ f. h (sym same ∙ f))
 
 -- ---- six words that fit
@@ -265,40 +267,40 @@ flag-bit zero h = refl
 flag-bit (suc zero) h = refl
 flag-bit (suc (suc n)) h = absurd (omega arith)
 
-module _ (a b c d f : ℕ) where
+module _ (x : Entry) (a b c d f : ℕ) where
   -- by the kind: the call that has these words, or the board, of 01's edition
-  split-holds : (kind : ℕ) → kind < length fields_by_kind → Split kind (a ∷ b ∷ c ∷ d ∷ f ∷ []) → Holds (entry_on (kind ∷ a ∷ b ∷ c ∷ d ∷ f ∷ []))
+  split-holds : (kind : ℕ) → words_of x ≡ kind ∷ a ∷ b ∷ c ∷ d ∷ f ∷ [] → kind < length fields_by_kind → Split kind (a ∷ b ∷ c ∷ d ∷ f ∷ []) → Holds x
   unfolding entry_of header_of entry_fits fields_of most most_of
-  split-holds zero l s = header (record { frames = a; uncached = b; processes = c; lines = d; ways = 1 }) s.fits s.words
-  split-holds (suc zero) l s =
+  split-holds zero w l s = header (record { frames = a; uncached = b; processes = c; lines = d; ways = 1 }) s.fits (w ∙ s.words)
+  split-holds (suc zero) w l s =
       let q = flag-bit b (s.each 1) in
-      call (user a (record { store = is_yes b; width = c; value = f }) (effective d)) (rw q s.fits) (rw q s.words)
-  split-holds (suc (suc zero)) l s =
+      call (user a (record { store = is_yes b; width = c; value = f }) (effective d)) (rw q s.fits) (w ∙ rw q s.words)
+  split-holds (suc (suc zero)) w l s =
       let q = flag-bit a (s.each 0) in
-      call (supervisor (access (record { store = is_yes a; width = b; value = d }) (global c))) (rw q s.fits) (rw q s.words)
-  split-holds (suc (suc (suc zero))) l s =
+      call (supervisor (access (record { store = is_yes a; width = b; value = d }) (global c))) (rw q s.fits) (w ∙ rw q s.words)
+  split-holds (suc (suc (suc zero))) w l s =
       let q = flag-bit d (s.each 3) in
-      call (supervisor (attach a b c (is_yes d))) (rw q s.fits) (rw q s.words)
-  split-holds (suc (suc (suc (suc zero)))) l s = call (supervisor (detach a b)) s.fits s.words
-  split-holds (suc (suc (suc (suc (suc zero))))) l s =
+      call (supervisor (attach a b c (is_yes d))) (rw q s.fits) (w ∙ rw q s.words)
+  split-holds (suc (suc (suc (suc zero)))) w l s = call (supervisor (detach a b)) s.fits (w ∙ s.words)
+  split-holds (suc (suc (suc (suc (suc zero))))) w l s =
       let q = flag-bit c (s.each 2) in
-      call (supervisor (map a b (is_yes c))) (rw q s.fits) (rw q s.words)
-  split-holds (suc (suc (suc (suc (suc (suc zero)))))) l s = call (supervisor (unmap a)) s.fits s.words
-  split-holds (suc (suc (suc (suc (suc (suc (suc zero))))))) l s =
+      call (supervisor (map a b (is_yes c))) (rw q s.fits) (w ∙ rw q s.words)
+  split-holds (suc (suc (suc (suc (suc (suc zero)))))) w l s = call (supervisor (unmap a)) s.fits (w ∙ s.words)
+  split-holds (suc (suc (suc (suc (suc (suc (suc zero))))))) w l s =
       let q = flag-bit b (s.each 1) in
-      call (supervisor (protect a (is_yes b))) (rw q s.fits) (rw q s.words)
-  split-holds (suc (suc (suc (suc (suc (suc (suc (suc zero)))))))) l s = call (supervisor flush_all) s.fits s.words
-  split-holds (suc (suc (suc (suc (suc (suc (suc (suc (suc zero))))))))) l s = call (supervisor (tag a)) s.fits s.words
-  split-holds (suc (suc (suc (suc (suc (suc (suc (suc (suc (suc zero)))))))))) l s = call (supervisor (load_and_map a)) s.fits s.words
-  split-holds (suc (suc (suc (suc (suc (suc (suc (suc (suc (suc (suc zero))))))))))) l s = call (supervisor drop_tag) s.fits s.words
-  split-holds (suc (suc (suc (suc (suc (suc (suc (suc (suc (suc (suc (suc zero)))))))))))) l s = call (supervisor (move a b)) s.fits s.words
-  split-holds (suc (suc (suc (suc (suc (suc (suc (suc (suc (suc (suc (suc (suc n))))))))))))) l s = absurd (omega arith)
+      call (supervisor (protect a (is_yes b))) (rw q s.fits) (w ∙ rw q s.words)
+  split-holds (suc (suc (suc (suc (suc (suc (suc (suc zero)))))))) w l s = call (supervisor flush_all) s.fits (w ∙ s.words)
+  split-holds (suc (suc (suc (suc (suc (suc (suc (suc (suc zero))))))))) w l s = call (supervisor (tag a)) s.fits (w ∙ s.words)
+  split-holds (suc (suc (suc (suc (suc (suc (suc (suc (suc (suc zero)))))))))) w l s = call (supervisor (load_and_map a)) s.fits (w ∙ s.words)
+  split-holds (suc (suc (suc (suc (suc (suc (suc (suc (suc (suc (suc zero))))))))))) w l s = call (supervisor drop_tag) s.fits (w ∙ s.words)
+  split-holds (suc (suc (suc (suc (suc (suc (suc (suc (suc (suc (suc (suc zero)))))))))))) w l s = call (supervisor (move a b)) s.fits (w ∙ s.words)
+  split-holds (suc (suc (suc (suc (suc (suc (suc (suc (suc (suc (suc (suc (suc n))))))))))))) w l s = absurd (omega arith)
 
 -- words that aren't refused are those of a call or of a header, and there is room
 ways-hold : {e : Entry} {bytes : List ℕ} {x : Written} → Ways e bytes x → x.wrote.reason ≡ reason_none → Holds e × (entry_bytes ≤ length bytes)
 ways-hold (refuses reason amount n f) h = absurd (n h)
 ways-hold {e} (writes amount after room k f) h =
-    (split-holds e.first e.second e.third e.fourth e.fifth e.kind k (fits-split e.kind (five_of e) f), room)
+    (split-holds e (get_or e.fields 0 0) (get_or e.fields 1 0) (get_or e.fields 2 0) (get_or e.fields 3 0) (get_or e.fields 4 0) e.kind refl k (fits-split e.kind (five_of e) f), room)
 
 -- ---- the statement
 

@@ -63,4 +63,4 @@ pub record LogExamples : Type 1 where
   pub wide : RefusedFor (after (2 ∷ 0 ∷ 128 ∷ 128 ∷ 128 ∷ 128 ∷ 16 ∷ [])) 6 6
   -- a load with a value isn't written: its fifth field is too large
   pub not_written : (buffer : List ℕ) → buffer ≡ replicate 60 7
-      → write_entry (record { kind = 1; first = 0; second = 0; third = 4; fourth = 0; fifth = 7 }) buffer ≡ written (wrote 6 5) buffer
+      → write_entry (record { kind = 1; fields = 0 ∷ 0 ∷ 4 ∷ 0 ∷ 7 ∷ [] }) buffer ≡ written (wrote 6 5) buffer

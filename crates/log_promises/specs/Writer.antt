@@ -6,8 +6,7 @@ use Rattle.log_numbers.specs.Numbers.{bytes_of}
 use Rattle.log_numbers.specs.Reasons.{reason_none, reason_misfit, reason_kind, reason_field}
 use Rattle.log_entries.specs.Entries.{fields_by_kind, most, five_of, words_of, six_of}
 use Rattle.log_entries.specs.declared.Entry.{Entry}
-use Rattle.log_writer.specs.declared.Wrote.{Wrote}
-use Rattle.log_writer.specs.Writing.{write_entry, written, wrote, entry_bytes}
+use Rattle.log_writer.specs.Writing.{Wrote, write_entry, written, wrote, entry_bytes}
 use Rattle.promises.specs.Runs.{Call}
 use Rattle.log_promises.specs.Calls.{Loggable, LoggableShape, entry_of, header_of, header_bytes, fields_fit}
 

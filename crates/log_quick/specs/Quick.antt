@@ -1,5 +1,5 @@
 -- What code inside asks: numbers that lie whole in a piece of a log, and a user access whose numbers do.
-use Rattle.std.specs.Prelude.{ℕ, suc, ◌+◌, ◌^◌, ◌<◌, ◌≤◌, ◌-◌, ◌≡◌, cond, List, ◌∷◌, ◌++◌, eqb, length, drop}
+use Rattle.std.specs.Prelude.{ℕ, suc, ◌+◌, ◌^◌, ◌<◌, ◌≤◌, ◌-◌, ◌≡◌, cond, Option, None, Some, List, ◌∷◌, ◌++◌, eqb, length, drop}
 use Rattle.log_numbers.specs.Numbers.{group_size, Groups, value_of}
 use Rattle.log_quick.specs.declared.Number.{Number}
 use Rattle.log_quick.specs.declared.UserAt.{UserAt}
@@ -17,12 +17,14 @@ pub record Heads (bytes : List ℕ) (n count : ℕ) (rest : List ℕ) : Type 0 w
   pub split : bytes ≡ groups ++ byte ∷ rest
 
 -- the number at a place of a piece, if it is plain
-abbrev pub NumberAt : List ℕ → ℕ → Number → Type 0
-NumberAt piece from r = (r.count ≤ 5) × ((r.count ≡ 0 → ⊥) → Heads (drop from piece) r.value r.count (drop (from + r.count) piece))
+abbrev pub NumberAt : List ℕ → ℕ → Option Number → Type 0
+NumberAt piece from None = Unit
+NumberAt piece from (Some r) = (r.count ≤ 5) × Heads (drop from piece) r.value r.count (drop (from + r.count) piece)
 
 -- a number after other groups is plain if its last group isn't 0
-abbrev pub Ended : ℕ → ℕ → ℕ → Number → Type 0
-Ended last value count r = (r.count ≤ count) × ((r.count ≡ 0 → ⊥) → (1 ≤ last) × (r.value ≡ value) × (r.count ≡ count))
+abbrev pub Ended : ℕ → ℕ → ℕ → Option Number → Type 0
+Ended last value count None = Unit
+Ended last value count (Some r) = (1 ≤ last) × (r.value ≡ value) × (r.count ≡ count)
 
 -- the user access at a place of a piece: its kind, and five fields that fit
 pub record UserHeads (piece : List ℕ) (from : ℕ) (r : UserAt) : Type 0 where
@@ -40,5 +42,6 @@ pub record UserHeads (piece : List ℕ) (from : ℕ) (r : UserAt) : Type 0 where
   pub address_fits : r.address ≤ 2 ^ 32 - 1
   pub value_fits : r.value ≤ cond (eqb r.store 0) 0 (2 ^ 32 - 1)
 
-abbrev pub UserIsAt : List ℕ → ℕ → UserAt → Type 0
-UserIsAt piece from r = (r.count ≤ 18) × ((r.count ≡ 0 → ⊥) → UserHeads piece from r)
+abbrev pub UserIsAt : List ℕ → ℕ → Option UserAt → Type 0
+UserIsAt piece from None = Unit
+UserIsAt piece from (Some r) = (r.count ≤ 18) × UserHeads piece from r

@@ -5,18 +5,18 @@
 ghost use Rattle.std.specs.Prelude.{◌≡◌, ◌+◌, ◌≤◌, length};
 ghost use Rattle.log_quick.specs.Quick.{NumberAt, Ended, UserIsAt};
 
-use log_entries::{USER_ACCESS, WORD_MOST, most_value};
+use log_entries::{Kind, WORD_MOST, most_value};
 use log_numbers::GROUP;
 
-// A number, and how many bytes it has; 0 bytes if it isn't plain.
-#[derive(Clone, Copy)]
+// A number, and how many bytes it has.
+#[derive(Clone, Copy, Debug, PartialEq, Eq)]
 struct Number {
     value: u64,
     count: usize,
 }
 
-// A user access, and how many bytes it has; 0 bytes if it isn't plain.
-#[derive(Clone, Copy)]
+// A user access, and how many bytes it has.
+#[derive(Clone, Copy, Debug, PartialEq, Eq)]
 pub struct UserAt {
     pub process: u64,
     pub store: u64,
@@ -29,43 +29,34 @@ pub struct UserAt {
 // The most bytes that a plain user access has.
 pub const USER_BYTES: usize = 18;
 
-fn wide(x: u8) -> u64
-    ensures { result ≡ x }
-{
-    x as u64
-}
-
-// A number whose last group is `last`, after others.
-fn ended(last: u64, value: u64, count: usize) -> Number
+// A number whose last group is `last`, after others, if it is plain.
+fn ended(last: u64, value: u64, count: usize) -> Option<Number>
     ensures { Ended last value count result }
 {
     if last == 0 {
-        return Number { value: 0, count: 0 };
+        return None;
     }
-    Number {
-        value: value,
-        count: count,
-    }
+    Some(Number { value, count })
 }
 
-// The number of at most five bytes from `from` on.
-fn number_at(piece: &[u8], from: usize) -> Number
+// The number of at most five bytes from `from` on, if it is plain. Read byte after byte and not by a loop: the reader's speed rests on it.
+fn number_at(piece: &[u8], from: usize) -> Option<Number>
     requires { from + 5 ≤ length piece.now }
     ensures { NumberAt piece.now from result }
 {
-    let a = wide(piece[from]);
+    let a = u64::from(piece[from]);
     if a < GROUP {
-        return Number { value: a, count: 1 };
+        return Some(Number { value: a, count: 1 });
     }
-    let b = wide(piece[from + 1]);
+    let b = u64::from(piece[from + 1]);
     if b < GROUP {
         return ended(b, a % GROUP + GROUP * b, 2);
     }
-    let c = wide(piece[from + 2]);
+    let c = u64::from(piece[from + 2]);
     if c < GROUP {
         return ended(c, a % GROUP + GROUP * (b % GROUP + GROUP * c), 3);
     }
-    let d = wide(piece[from + 3]);
+    let d = u64::from(piece[from + 3]);
     if d < GROUP {
         return ended(
             d,
@@ -73,7 +64,7 @@ fn number_at(piece: &[u8], from: usize) -> Number
             4,
         );
     }
-    let e = wide(piece[from + 4]);
+    let e = u64::from(piece[from + 4]);
     if e < GROUP {
         return ended(
             e,
@@ -81,55 +72,32 @@ fn number_at(piece: &[u8], from: usize) -> Number
             5,
         );
     }
-    Number { value: 0, count: 0 }
+    None
 }
 
-// No plain user access.
-fn not_plain() -> UserAt
-    ensures { result.count ≡ 0 }
-{
-    UserAt {
-        process: 0,
-        store: 0,
-        width: 0,
-        address: 0,
-        value: 0,
-        count: 0,
-    }
-}
-
-// The user access from `from` on.
-pub fn user_at(piece: &[u8], from: usize) -> UserAt
+// The user access from `from` on, if it is plain.
+pub fn user_at(piece: &[u8], from: usize) -> Option<UserAt>
     requires { from + 18 ≤ length piece.now }
     ensures { UserIsAt piece.now from result }
 {
-    if wide(piece[from]) != USER_ACCESS {
-        return not_plain();
+    if u64::from(piece[from]) != Kind::UserAccess as u64 {
+        return None;
     }
-    let p = number_at(piece, from + 1);
-    if p.count == 0 {
-        return not_plain();
-    }
+    let p = number_at(piece, from + 1)?;
     let flags = from + 1 + p.count;
-    let store = wide(piece[flags]);
-    let width = wide(piece[flags + 1]);
-    let a = number_at(piece, flags + 2);
-    if a.count == 0 {
-        return not_plain();
-    }
-    let v = number_at(piece, flags + 2 + a.count);
-    if v.count == 0 {
-        return not_plain();
-    }
+    let store = u64::from(piece[flags]);
+    let width = u64::from(piece[flags + 1]);
+    let a = number_at(piece, flags + 2)?;
+    let v = number_at(piece, flags + 2 + a.count)?;
     if (store <= 1) & (width < GROUP) & (a.value <= WORD_MOST) & (v.value <= most_value(store)) {
-        return UserAt {
+        return Some(UserAt {
             process: p.value,
-            store: store,
-            width: width,
+            store,
+            width,
             address: a.value,
             value: v.value,
             count: 1 + p.count + 2 + a.count + v.count,
-        };
+        });
     }
-    not_plain()
+    None
 }

@@ -5,69 +5,23 @@ use mathlib.Core.Bool.{Bool, true, false, not, ◌&&◌, cond}
 use mathlib.Core.List.{List, [], ◌∷◌}
 use native.Mathlib.Numerals.{add-one}
 use native.Mathlib.Omega.{arith}
-use lib.Dec.{eqb, ltb, leb, eqb-suc-zero}
-use lib.ListN.{length, get_or, take, drop, set, length-take, drop_of_length-le, get_or-eq_default}
-use lib.Seq.{get_or-take, drop-cons}
-use borrow.Author.Tests.{ne_eqb, le-leb, lt-leb, eqb-false, leb-true, leb-false, ltb-true, ltb-false}
+use lib.Dec.{eqb, ltb, eqb-suc-zero}
+use lib.ListN.{length, get_or, take, drop, drop_of_length-le}
+use lib.Seq.{drop-cons}
+use borrow.Author.Tests.{ne_eqb, eqb-false, ltb-true, ltb-false}
 use Rattle.board.specs.Lists.{is_yes, splice}
 use Rattle.board.proofs.Bools.{clash}
 use Rattle.board.proofs.Lists.{length-splice}
+use Rattle.std.specs.Prelude.{Option, None, Some}
+use Rattle.std.specs.Option.{is_some}
+use Rattle.log_numbers.specs.Takes.{number_of, refusal_of}
+use Rattle.log_numbers.specs.declared.Reason.{Reason}
+use Rattle.log_numbers.proofs.Reasons.{number-some}
 use Rattle.log_entries.specs.Entries.{entry_words, fields_of, five_of, words_of, six_of}
 use Rattle.log_entries.specs.declared.Entry.{Entry}
 use Rattle.log_reader.specs.Reading.{State, state, fresh, Step, on, gives, Reading, reading, byte_in, stepped, step_first, room_after, read_into, is_between, reason_of, place_of}
-use Rattle.log_reader.specs.Readers.{state_of, Readable, step_with, step_of, Turned, sixes, laid, laid_from, laid_left, put_step, given_after}
+use Rattle.log_reader.specs.Readers.{state_of, Readable, Turned, sixes, laid, laid_from, laid_left, put_step, given_after}
 use Rattle.log_reader.specs.declared.Reader.{Reader}
-use Rattle.log_reader.specs.declared.Stepped.{Stepped}
-
--- ---- six words
-
-pub shown-there : (i n x : ℕ) → i ≤ n → x ≡ cond (leb i n) x 0
-shown-there i n x h = rw (le-leb i n h)
-
-pub shown-none : (i n x : ℕ) → n < i → 0 ≡ cond (leb i n) x 0
-shown-none i n x h = rw (lt-leb i n h)
-
--- a word of an entry that has n fields
-word-shown : (n j : ℕ) (l : List ℕ) → get_or (take (1 + n) l) j 0 ≡ cond (leb j n) (get_or l j 0) 0
-word-shown n j l = go (leb j n) refl
-  where
-    go : (t : Bool) → leb j n ≡ t → get_or (take (1 + n) l) j 0 ≡ cond t (get_or l j 0) 0
-    go true e = get_or-take (1 + n) l j 0 (omega (arith, leb-true j n e))
-    go false e = get_or-eq_default (take (1 + n) l) 0 {n = j} (omega (arith, length-take (1 + n) l, leb-false j n e))
-
--- the six words of a whole entry, as the code puts them
-module _ (e : Entry) (n : ℕ) (x₁ x₂ x₃ x₄ x₅ : ℕ) (f : n ≡ length (fields_of e.kind))
-    (s₁ : x₁ ≡ cond (leb 1 n) e.first 0) (s₂ : x₂ ≡ cond (leb 2 n) e.second 0) (s₃ : x₃ ≡ cond (leb 3 n) e.third 0)
-    (s₄ : x₄ ≡ cond (leb 4 n) e.fourth 0) (s₅ : x₅ ≡ cond (leb 5 n) e.fifth 0) where
-  pub six-shown : e.kind ∷ x₁ ∷ x₂ ∷ x₃ ∷ x₄ ∷ x₅ ∷ [] ≡ six_of (take (1 + length (fields_of e.kind)) (words_of e))
-  six-shown =
-      rw (
-        sym f,
-        s₁,
-        s₂,
-        s₃,
-        s₄,
-        s₅,
-        word-shown n 0 (words_of e),
-        word-shown n 1 (words_of e),
-        word-shown n 2 (words_of e),
-        word-shown n 3 (words_of e),
-        word-shown n 4 (words_of e),
-        word-shown n 5 (words_of e),
-        le-leb 0 n (omega arith),
-      )
-
--- six words put one after another
-pub six-put : (list : List ℕ) (at a b c d e f : ℕ)
-    → set (set (set (set (set (set list at a) (at + 1) b) (at + 2) c) (at + 3) d) (at + 4) e) (at + 5) f ≡ splice list at (a ∷ b ∷ c ∷ d ∷ e ∷ f ∷ [])
-unfolding splice
-six-put list at a b c d e f =
-    let a₁ : at + 1 ≡ suc at = omega arith in
-    let a₂ : at + 2 ≡ suc (suc at) = omega arith in
-    let a₃ : at + 3 ≡ suc (suc (suc at)) = omega arith in
-    let a₄ : at + 4 ≡ suc (suc (suc (suc at))) = omega arith in
-    let a₅ : at + 5 ≡ suc (suc (suc (suc (suc at)))) = omega arith in
-    rw (a₁, a₂, a₃, a₄, a₅)
 
 -- ---- reading on
 
@@ -82,15 +36,6 @@ fresh-fields e w = let k : e.kind ≡ 0 = ap (λ (l : List ℕ). get_or l 0 0) w
 -- there is room for the words of one more entry
 pub room-words : (given n : ℕ) → given < n / entry_words → entry_words * given + entry_words ≤ n
 room-words given n h = omega (arith, h)
-
--- the entry that a step gives
-pub step-put : (s : Stepped) (list list₁ : List ℕ) (given : ℕ) → s.whole ≡ true
-    → list₁ ≡ splice list (entry_words * given) (six_of (take (1 + length (fields_of s.reader.entry.kind)) (words_of s.reader.entry)))
-    → (list₁ ≡ put_step list given (step_of s)) × (given + 1 ≡ given_after given (step_of s))
-step-put s list list₁ given w e = (rw w e, rw w)
-
-pub step-on : (s : Stepped) (list : List ℕ) (given : ℕ) → s.whole ≡ false → (list ≡ put_step list given (step_of s)) × (given ≡ given_after given (step_of s))
-step-on s list given w = (rw w, rw w)
 
 -- an entry first, then the others
 pub laid_more : (list : List ℕ) (given : ℕ) (e : List ℕ) (x : Reading)
@@ -126,26 +71,18 @@ module _ (list : List ℕ) (given : ℕ) (st : State) (bytes : List ℕ) (from :
           kept : left - 1 ≡ length (splice list (entry_words * given) (six_of e)) / entry_words - (given + 1)
           kept = rw (length-splice list (entry_words * given) (six_of e)) (omega arith)
 
--- the step that the code makes
-stepped-of : (s : Stepped) → stepped (step_of s) ≡ state_of s.reader
-stepped-of s = go s.whole
-  where
-    go : (t : Bool) → stepped (step_with t s.reader) ≡ state_of s.reader
-    go true = refl
-    go false = refl
-
-pub turned : (list list₁ : List ℕ) (given given₁ : ℕ) (r : Reader) (bytes : List ℕ) (from : ℕ) (s : Stepped)
-    → Readable r → from < length bytes → given < length list / entry_words
-    → (step_of s ≡ byte_in (state_of r) (get_or bytes from 0)) × Readable s.reader × (s.reader.at ≤ r.at + 1)
-    → (list₁ ≡ put_step list given (step_of s)) × (given₁ ≡ given_after given (step_of s))
-    → Turned r.at from (length bytes) (from + 1) s.reader (laid_left list given (state_of r) (drop from bytes)) (laid_left list₁ given₁ (state_of s.reader) (drop (from + 1) bytes))
-turned list list₁ given given₁ r bytes from s h inside room e p =
+-- a byte's step, by the reader after it
+pub turned : (list list₁ : List ℕ) (given given₁ : ℕ) (r x : Reader) (bytes : List ℕ) (from : ℕ) (s : Step)
+    → Readable r → from < length bytes → given < length list / entry_words → s ≡ byte_in (state_of r) (get_or bytes from 0)
+    → stepped s ≡ state_of x → Readable x → x.at ≤ r.at + 1 → list₁ ≡ put_step list given s → given₁ ≡ given_after given s
+    → Turned r.at from (length bytes) (from + 1) x (laid_left list given (state_of r) (drop from bytes)) (laid_left list₁ given₁ (state_of x) (drop (from + 1) bytes))
+turned list list₁ given given₁ r x bytes from s h inside room e stands readable near p q =
     record {
-      same = turn-same list given (state_of r) bytes from (step_of s) inside room e.0 ∙ rw (sym p.0, sym p.1, stepped-of s);
-      readable = e.1;
+      same = turn-same list given (state_of r) bytes from s inside room e ∙ rw (sym p, sym q, stands);
+      readable = readable;
       further = omega arith;
       inside = omega (arith, inside);
-      taken = omega (arith, e.2);
+      taken = omega (arith, near);
     }
 
 -- ---- the end
@@ -194,6 +131,19 @@ read_done list bytes given from st e = none ∙ ap (laid_from list given) (sym (
 pub laid-start : (list : List ℕ) (st : State) (bytes : List ℕ) → laid_left list 0 st (drop 0 bytes) ≡ laid_from list 0 (read_into (length list / entry_words) st bytes)
 laid-start list st bytes = let a : length list / entry_words - 0 ≡ length list / entry_words = omega arith in rw a
 
+-- a reader that hasn't refused has no number for it
+pub none-is : (x : Option Reason) (t : Bool) → is_some x ≡ not t → t ≡ eqb (refusal_of x) 0
+none-is x true h = go x h
+  where
+    go : (y : Option Reason) → is_some y ≡ false → true ≡ eqb (refusal_of y) 0
+    go None f = refl
+    go (Some e) f = clash true refl f
+none-is x false h = go x h
+  where
+    go : (y : Option Reason) → is_some y ≡ true → false ≡ eqb (refusal_of y) 0
+    go None f = clash false f refl
+    go (Some e) f = sym (ne_eqb (number_of e) 0 (number-some e))
+
 -- the loop's test, part by part
 pub and_first : (t u v : Bool) → (t && u && v) ≡ true → (t ≡ true) × (u ≡ true) × (v ≡ true)
 and_first true true true e = (refl, refl, refl)
@@ -205,8 +155,9 @@ and_first false u v e = clash false e refl
 pub turn-room : (given n₀ : ℕ) (l : List ℕ) → length l ≡ n₀ → ltb given (n₀ / entry_words) ≡ true → given < length l / entry_words
 turn-room given n₀ l e t = rw e (ltb-true given (n₀ / entry_words) t)
 
-pub turn-ends : (t v : Bool) (given n₀ : ℕ) (l : List ℕ) → length l ≡ n₀ → (t && ltb given (n₀ / entry_words) && v) ≡ false → (t && ltb given (length l / entry_words) && v) ≡ false
-turn-ends t v given n₀ l e x = rw e x
+pub turn-ends : (t v w : Bool) → v ≡ w → (given n₀ : ℕ) (l : List ℕ) → length l ≡ n₀ → (t && ltb given (n₀ / entry_words) && v) ≡ false
+    → (t && ltb given (length l / entry_words) && w) ≡ false
+turn-ends t v w z given n₀ l e x = rw (e, sym z) x
 
 -- ---- between entries, and the end of a log
 
@@ -220,22 +171,26 @@ unfolding is_between
 between_is r = rw (count_none r.entry r.count)
 
 module _ (r : Reader) where
-  pub reason-refused : (ended : Bool) → (r.reason ≡ 0 → ⊥) → r.reason ≡ reason_of (state_of r) ended
-  unfolding reason_of
-  reason-refused ended h = rw (ne_eqb r.reason 0 h)
+  -- one that has refused
+  refused-yes : (e : Reason) → is_yes (number_of e) ≡ true
+  refused-yes e = rw (ne_eqb (number_of e) 0 (number-some e))
 
-  pub reason-cut : (ended between : Bool) → between ≡ is_between (state_of r) → (r.reason ≡ 0) → (ended && not between) ≡ true → 4 ≡ reason_of (state_of r) ended
+  pub reason-cut : (ended between : Bool) → between ≡ is_between (state_of r) → r.reason ≡ None → (ended && not between) ≡ true → 4 ≡ reason_of (state_of r) ended
   unfolding reason_of
   reason-cut ended between b z e = rw (sym b, z, e)
 
-  pub reason-none : (ended between : Bool) → between ≡ is_between (state_of r) → (r.reason ≡ 0) → (ended && not between) ≡ false → 0 ≡ reason_of (state_of r) ended
+  pub reason-refused : (ended : Bool) (e : Reason) → r.reason ≡ Some e → number_of e ≡ reason_of (state_of r) ended
+  unfolding reason_of
+  reason-refused ended e z = rw (z, refused-yes e)
+
+  pub reason-none : (ended between : Bool) → between ≡ is_between (state_of r) → r.reason ≡ None → (ended && not between) ≡ false → 0 ≡ reason_of (state_of r) ended
   unfolding reason_of
   reason-none ended between b z e = rw (sym b, z, e)
 
-  pub place-number : (r.reason ≡ 0 → ⊥) → r.at - r.groups ≡ place_of (state_of r)
+  pub place-number : (e : Reason) → r.reason ≡ Some e → r.at - r.groups ≡ place_of (state_of r)
   unfolding place_of
-  place-number h = rw (ne_eqb r.reason 0 h)
+  place-number e z = rw (z, refused-yes e)
 
-  pub place_end : r.reason ≡ 0 → r.at ≡ place_of (state_of r)
+  pub place_end : r.reason ≡ None → r.at ≡ place_of (state_of r)
   unfolding place_of
   place_end z = rw z

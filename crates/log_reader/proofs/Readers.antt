@@ -10,9 +10,12 @@ use lib.ListN.{length, take}
 use borrow.Author.Tests.{eqb-false, leb-true, ltb-false}
 use Rattle.board.specs.Lists.{is_yes}
 use Rattle.board.proofs.Bools.{clash}
-use Rattle.log_numbers.specs.Numbers.{group_size, groups_before, take_byte}
-use Rattle.log_numbers.specs.declared.Taken.{Taken}
-use Rattle.log_numbers.specs.declared.Taken.TheVariants.{More, Whole, Wrong}
+use Rattle.std.specs.Prelude.{Option, None, Result, Ok, Err}
+use Rattle.log_numbers.specs.Numbers.{group_size, groups_before, Taken, More, Whole, Wrong, take_byte}
+use Rattle.log_numbers.specs.Takes.{number_of, refusal_of, taken_of}
+use Rattle.log_numbers.specs.declared.Reason.{Reason}
+use Rattle.log_numbers.specs.declared.Taken as declared
+use Rattle.log_numbers.specs.declared.Taken.TheVariants as taken
 use Rattle.log_numbers.proofs.Groups.{below_next}
 use Rattle.log_entries.proofs.Tables.{kind-few}
 use Rattle.log_entries.specs.Entries.{fields_of, number_in, words_of}
@@ -20,43 +23,40 @@ use Rattle.log_entries.specs.Enters.{entered_of, EnteredFits}
 use Rattle.log_entries.specs.declared.Entry.{Entry}
 use Rattle.log_entries.specs.declared.Entered.{Entered}
 use Rattle.log_entries.specs.declared.Entered.TheVariants as entered
-use Rattle.log_reader.specs.Reading.{Step, on, refused, numbered, byte_in}
-use Rattle.log_reader.specs.Readers.{state_of, Readable, step_with}
+use Rattle.log_reader.specs.Reading.{Step, on, gives, refused, numbered, byte_in}
+use Rattle.log_reader.specs.Readers.{state_of, Readable}
 use Rattle.log_reader.specs.declared.Reader.{Reader}
 
 -- a reader from its parts
-abbrev pub reader : ℕ → ℕ → ℕ → ℕ → Entry → ℕ → Reader
+abbrev pub reader : ℕ → ℕ → ℕ → ℕ → Entry → Option Reason → Reader
 reader at groups sum count entry reason = record { at = at; groups = groups; sum = sum; count = count; entry = entry; reason = reason }
 
 -- ---- a number
 
--- there is room for one more number
-pub number-room : (count : ℕ) (x : Entered) (y : Entry) → EnteredFits count x → x ≡ entered.Growing y → suc count ≤ length (fields_of y.kind)
-number-room count x y e g = subst (EnteredFits count) g e
-
-pub number_fits : (count : ℕ) (x : Entered) (y : Entry) → EnteredFits count x → x ≡ entered.Growing y → count + 1 < 2 ^ 64
-number_fits count x y e g = let r = number-room count x y e g in omega (arith, r, kind-few y.kind (suc count) r)
-
-module _ (r : Reader) (n : ℕ) (x : Entered) (y : Entry)
+module _ (r : Reader) (n : ℕ) (x : Result Entered Reason) (y : Entry)
     (e : (entered_of r.count x ≡ number_in (take r.count (words_of r.entry)) n) × EnteredFits r.count x) where
   -- between numbers a reader has no groups
-  clean : (count : ℕ) → count ≤ length (fields_of y.kind) → Readable (reader (r.at + 1) 0 0 count y 0)
+  clean : (count : ℕ) → count ≤ length (fields_of y.kind) → Readable (reader (r.at + 1) 0 0 count y None)
   clean count h = record { few = omega arith; within = omega arith; small = omega arith; fields = h }
 
-  pub number-grows : x ≡ entered.Growing y
-      → (step_with false (reader (r.at + 1) 0 0 (r.count + 1) y 0) ≡ numbered (state_of r) (number_in (take r.count (words_of r.entry)) n))
-      × Readable (reader (r.at + 1) 0 0 (r.count + 1) y 0)
+  -- there is room for one more number
+  grown : x ≡ Ok (entered.Growing y) → suc r.count ≤ length (fields_of y.kind)
+  grown g = subst (EnteredFits r.count) g e.1
+
+  pub number_fits : x ≡ Ok (entered.Growing y) → r.count + 1 < 2 ^ 64
+  number_fits g = omega (arith, grown g, kind-few y.kind (suc r.count) (grown g))
+
+  pub number-grows : x ≡ Ok (entered.Growing y)
+      → (on (state_of (reader (r.at + 1) 0 0 (r.count + 1) y None)) ≡ numbered (state_of r) (number_in (take r.count (words_of r.entry)) n))
+      × Readable (reader (r.at + 1) 0 0 (r.count + 1) y None)
   number-grows g = (
     rw (add-one r.at, add-one r.count) (ap (numbered (state_of r)) (sym (ap (entered_of r.count) g) ∙ e.0)),
-    clean (r.count + 1) (omega (arith, grown)),
+    clean (r.count + 1) (omega (arith, grown g)),
   )
-    where
-      grown : suc r.count ≤ length (fields_of y.kind)
-      grown = number-room r.count x y e.1 g
 
-  pub number-ends : x ≡ entered.Whole y
-      → (step_with true (reader (r.at + 1) 0 0 0 y 0) ≡ numbered (state_of r) (number_in (take r.count (words_of r.entry)) n))
-      × Readable (reader (r.at + 1) 0 0 0 y 0)
+  pub number-ends : x ≡ Ok (entered.Whole y)
+      → (gives (take (1 + length (fields_of y.kind)) (words_of y)) (state_of (reader (r.at + 1) 0 0 0 y None)) ≡ numbered (state_of r) (number_in (take r.count (words_of r.entry)) n))
+      × Readable (reader (r.at + 1) 0 0 0 y None)
   number-ends g = (
     rw (add-one r.at, sym full) (ap (numbered (state_of r)) (sym (ap (entered_of r.count) g) ∙ e.0)),
     clean 0 (omega arith),
@@ -65,9 +65,9 @@ module _ (r : Reader) (n : ℕ) (x : Entered) (y : Entry)
       full : suc r.count ≡ 1 + length (fields_of y.kind)
       full = omega (arith, subst (EnteredFits r.count) g e.1)
 
-pub number-improper : (r : Reader) (n : ℕ) (x : Entered) (reason : ℕ)
+pub number-improper : (r : Reader) (n : ℕ) (x : Result Entered Reason) (reason : Reason)
     → (entered_of r.count x ≡ number_in (take r.count (words_of r.entry)) n) × EnteredFits r.count x
-    → x ≡ entered.Improper reason → on (refused (state_of r) reason) ≡ numbered (state_of r) (number_in (take r.count (words_of r.entry)) n)
+    → x ≡ Err reason → on (refused (state_of r) (number_of reason)) ≡ numbered (state_of r) (number_in (take r.count (words_of r.entry)) n)
 number-improper r n x reason e g = ap (numbered (state_of r)) (sym (ap (entered_of r.count) g) ∙ e.0)
 
 -- ---- a byte
@@ -99,26 +99,30 @@ more-groups g s b sum h l e = go (eqb g groups_before) (ltb 1 b) (leb group_size
     go false u false true p q k x = clash true refl (sym (ap is_more x))
     go false u false false p q k x = clash true refl (sym (ap is_more x))
 
-module _ (r : Reader) (b : ℕ) (x : Taken) (e : x ≡ take_byte r.groups r.sum b) (ok : r.reason ≡ 0) where
-  not-refused : is_yes r.reason ≡ false
+module _ (r : Reader) (b : ℕ) (x : Result declared.Taken Reason) (e : taken_of x ≡ take_byte r.groups r.sum b) (ok : r.reason ≡ None) where
+  not-refused : is_yes (refusal_of r.reason) ≡ false
   not-refused = rw ok
 
+  -- what the byte makes of the number, as the definition has it
+  made : (y : Result declared.Taken Reason) → x ≡ y → take_byte r.groups r.sum b ≡ taken_of y
+  made y g = sym e ∙ ap taken_of g
+
   -- one more group
-  pub byte_more : (sum : ℕ) → Readable r → x ≡ More sum
-      → (step_with false (reader (r.at + 1) (r.groups + 1) sum r.count r.entry r.reason) ≡ byte_in (state_of r) b)
+  pub byte_more : (sum : ℕ) → Readable r → x ≡ Ok (taken.More sum)
+      → (on (state_of (reader (r.at + 1) (r.groups + 1) sum r.count r.entry r.reason)) ≡ byte_in (state_of r) b)
       × Readable (reader (r.at + 1) (r.groups + 1) sum r.count r.entry r.reason)
   unfolding byte_in
   byte_more sum h g =
-      let m = more-groups r.groups r.sum b sum h.few h.small (sym e ∙ g) in (
-        rw (not-refused, sym e, g, add-one r.at, add-one r.groups, ok),
+      let m = more-groups r.groups r.sum b sum h.few h.small (made (Ok (taken.More sum)) g) in (
+        rw (not-refused, made (Ok (taken.More sum)) g, add-one r.at, add-one r.groups, ok),
         record { few = omega (arith, m.0); within = omega (arith, h.within); small = rw (add-one r.groups) m.1; fields = h.fields },
       )
 
   -- the last group
-  pub byte-whole : (n : ℕ) (s : Step) → x ≡ Whole n → s ≡ numbered (state_of r) (number_in (take r.count (words_of r.entry)) n) → s ≡ byte_in (state_of r) b
+  pub byte-whole : (n : ℕ) (s : Step) → x ≡ Ok (taken.Whole n) → s ≡ numbered (state_of r) (number_in (take r.count (words_of r.entry)) n) → s ≡ byte_in (state_of r) b
   unfolding byte_in
-  byte-whole n s g z = rw (not-refused, sym e, g) z
+  byte-whole n s g z = rw (not-refused, made (Ok (taken.Whole n)) g) z
 
-  pub byte-wrong : (reason : ℕ) (s : Step) → x ≡ Wrong reason → s ≡ on (refused (state_of r) reason) → s ≡ byte_in (state_of r) b
+  pub byte-wrong : (reason : Reason) → x ≡ Err reason → on (refused (state_of r) (number_of reason)) ≡ byte_in (state_of r) b
   unfolding byte_in
-  byte-wrong reason s g z = rw (not-refused, sym e, g) z
+  byte-wrong reason g = rw (not-refused, made (Err reason) g)

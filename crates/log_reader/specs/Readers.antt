@@ -1,15 +1,18 @@
 -- What code has of a reader, and how it lays entries out.
-use Rattle.std.specs.Prelude.{ℕ, ◌+◌, ◌*◌, ◌-◌, ◌/◌, ◌<◌, ◌≤◌, ◌^◌, ◌≡◌, Bool, true, false, List, [], ◌∷◌, ◌++◌, length, take}
+use Rattle.std.specs.Prelude.{ℕ, ◌+◌, ◌*◌, ◌-◌, ◌/◌, ◌<◌, ◌≤◌, ◌^◌, ◌≡◌, Result, Ok, Err, List, [], ◌∷◌, ◌++◌, length, take}
 use Rattle.board.specs.Lists.{splice}
 use Rattle.log_numbers.specs.Numbers.{group_size, groups_before}
+use Rattle.log_numbers.specs.Takes.{number_of, refusal_of}
+use Rattle.log_numbers.specs.declared.Reason.{Reason}
 use Rattle.log_entries.specs.Entries.{fields_of, entry_words, words_of, six_of}
-use Rattle.log_reader.specs.Reading.{State, state, Reading, Step, on, gives, read_into}
+use Rattle.log_reader.specs.Reading.{State, state, refused, Reading, Step, on, gives, read_into}
 use Rattle.log_reader.specs.declared.Reader.{Reader}
 use Rattle.log_reader.specs.declared.Stepped.{Stepped}
+use Rattle.log_reader.specs.declared.Stepped.TheVariants.{On, Gives}
 
 -- where a reader stands: its entry has `count` numbers so far
 abbrev pub state_of : Reader → State
-state_of r = state r.at r.groups r.sum (take r.count (words_of r.entry)) r.reason
+state_of r = state r.at r.groups r.sum (take r.count (words_of r.entry)) (refusal_of r.reason)
 
 -- what is so of any reader that came about by reading
 pub record Readable (r : Reader) : Type 0 where
@@ -18,13 +21,18 @@ pub record Readable (r : Reader) : Type 0 where
   pub small : r.sum < group_size ^ r.groups
   pub fields : r.count ≤ length (fields_of r.entry.kind)
 
--- a byte's step, as code has it: the entry that is given stands in the reader's words
-abbrev pub step_with : Bool → Reader → Step
-step_with true r = gives (take (1 + length (fields_of r.entry.kind)) (words_of r.entry)) (state_of r)
-step_with false r = on (state_of r)
+-- a byte's step from a reader, as code has it: the entry that is given stands in the words of the reader after it; what is refused leaves the
+-- reader where it stood
+abbrev pub step_of : Reader → Result Stepped Reason → Step
+step_of r (Ok (On x)) = on (state_of x)
+step_of r (Ok (Gives x)) = gives (take (1 + length (fields_of x.entry.kind)) (words_of x.entry)) (state_of x)
+step_of r (Err reason) = on (refused (state_of r) (number_of reason))
 
-abbrev pub step_of : Stepped → Step
-step_of s = step_with s.whole s.reader
+-- what is so of the reader after it
+abbrev pub StepFits : Reader → Result Stepped Reason → Type 0
+StepFits r (Ok (On x)) = Readable x × (x.at ≤ r.at + 1)
+StepFits r (Ok (Gives x)) = Readable x × (x.at ≤ r.at + 1)
+StepFits r (Err reason) = Unit
 
 -- entries one after another, each by its six words
 unfoldable pub sixes : List (List ℕ) → List ℕ

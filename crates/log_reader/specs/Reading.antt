@@ -2,10 +2,8 @@
 -- (…) is refused with the place of that number's first byte, a cut with the log's length."
 use Rattle.std.specs.Prelude.{ℕ, suc, ◌-◌, Bool, true, not, ◌&&◌, cond, List, [], ◌∷◌, length, eqb}
 use Rattle.board.specs.Lists.{is_yes}
-use Rattle.log_numbers.specs.Numbers.{take_byte}
+use Rattle.log_numbers.specs.Numbers.{Taken, More, Whole, Wrong, take_byte}
 use Rattle.log_numbers.specs.Reasons.{reason_none, reason_cut}
-use Rattle.log_numbers.specs.declared.Taken.{Taken}
-use Rattle.log_numbers.specs.declared.Taken.TheVariants.{More, Whole, Wrong}
 use Rattle.log_entries.specs.Entries.{Entered, growing, whole, improper, number_in}
 
 -- ---- where a reader stands in a log

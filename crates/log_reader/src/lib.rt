@@ -1,38 +1,39 @@
 // Reads a log in pieces, cut anywhere (CR 1). A reader is a few words by value.
 #![tactic(auto)]
 
-ghost use Rattle.std.specs.Prelude.{◌≡◌, ◌+◌, ◌*◌, ◌/◌, ◌≤◌, ◌<◌, cond, [], ◌∷◌, leb, length, take, drop};
+ghost use Rattle.std.specs.Prelude.{◌≡◌, ◌+◌, ◌*◌, ◌/◌, ◌≤◌, ◌<◌, None, length, take, drop};
 ghost use Rattle.board.specs.Lists.{splice};
 ghost use Rattle.log_entries.specs.Entries.{entry_words, fields_of, number_in, words_of, six_of};
 ghost use Rattle.log_numbers.specs.Numbers.{number_end};
-ghost use Rattle.log_reader.specs.Reading.{fresh, is_between, on, refused, numbered, byte_in, read_into, reason_of, place_of};
-ghost use Rattle.log_reader.specs.Readers.{state_of, Readable, step_of, put_step, given_after, laid, laid_from, laid_left, Turned};
+ghost use Rattle.log_numbers.specs.Takes.{refusal_of};
+ghost use Rattle.log_reader.specs.Reading.{fresh, is_between, numbered, byte_in, read_into, reason_of, place_of};
+ghost use Rattle.log_reader.specs.Readers.{state_of, Readable, step_of, StepFits, laid, laid_from, laid_left, Turned};
 
-use log_entries::{ENTRY_WORDS, Entered, Entry, HEADER, USER_ACCESS};
-use log_numbers::{CUT, NONE, Taken};
+use log_entries::{ENTRY_WORDS, Entered, Entry, Kind};
+use log_numbers::{Reason, Taken};
 use log_quick::USER_BYTES;
 
 // Where a reader stands: the bytes taken; the groups of the number that is being read, and what they are worth; the entry that is
-// being read, and how many of its numbers are there; why the log was refused, or 0.
-#[derive(Clone, Copy)]
+// being read, and how many of its numbers are there; why the log was refused, if it was.
+#[derive(Clone, Copy, Debug, PartialEq, Eq)]
 pub struct Reader {
     pub at: u64,
     pub groups: u64,
     pub sum: u64,
     pub count: usize,
     pub entry: Entry,
-    pub reason: u64,
+    pub reason: Option<Reason>,
 }
 
-// A reader after a byte, and whether that made its entry whole.
-#[derive(Clone, Copy)]
-pub struct Stepped {
-    pub reader: Reader,
-    pub whole: bool,
+// A reader after a byte: it goes on, or gives its entry, which is whole, and goes on.
+#[derive(Clone, Copy, Debug, PartialEq, Eq)]
+pub enum Stepped {
+    On(Reader),
+    Gives(Reader),
 }
 
 // A reader after a piece, and how many entries it gave.
-#[derive(Clone, Copy)]
+#[derive(Clone, Copy, Debug, PartialEq, Eq)]
 pub struct Progress {
     pub reader: Reader,
     pub given: usize,
@@ -47,77 +48,50 @@ pub fn fresh_reader() -> Reader
         groups: 0,
         sum: 0,
         count: 1,
-        entry: log_entries::of_kind(HEADER),
-        reason: NONE,
+        entry: log_entries::of_kind(Kind::Header as u64),
+        reason: None,
     }
 }
 
-// The reader, refusing its next byte.
-fn refuse(r: Reader, reason: u64) -> Stepped
-    requires { Readable r }
-    ensures { (step_of result ≡ on (refused (state_of r) reason)) × Readable result.reader × (result.reader.at ≤ r.at + 1) }
-{
-    let mut x = r;
-    x.reason = reason;
-    Stepped {
-        reader: x,
-        whole: false,
-    }
-}
-
-// The reader after a number.
-fn after_number(r: Reader, n: u64) -> Stepped
+// The reader after a number, or why that is refused.
+fn after_number(r: Reader, n: u64) -> Result<Stepped, Reason>
     requires { Readable r × (r.at + 1 < number_end) }
-    ensures { (step_of result ≡ numbered (state_of r) (number_in (state_of r).numbers n)) × Readable result.reader × (result.reader.at ≤ r.at + 1) }
+    ensures { (step_of r result ≡ numbered (state_of r) (number_in (state_of r).numbers n)) × StepFits r result }
 {
-    let e = r.entry;
-    let count = r.count;
     let at = r.at + 1;
-    match log_entries::enter(e, count, n) {
-        Entered::Growing(x) => Stepped {
-            reader: Reader {
-                at: at,
-                groups: 0,
-                sum: 0,
-                count: count + 1,
-                entry: x,
-                reason: NONE,
-            },
-            whole: false,
-        },
-        Entered::Whole(x) => Stepped {
-            reader: Reader {
-                at: at,
-                groups: 0,
-                sum: 0,
-                count: 0,
-                entry: x,
-                reason: NONE,
-            },
-            whole: true,
-        },
-        Entered::Improper(reason) => refuse(r, reason),
+    match log_entries::enter(r.entry, r.count, n)? {
+        Entered::Growing(entry) => Ok(Stepped::On(Reader {
+            at,
+            groups: 0,
+            sum: 0,
+            count: r.count + 1,
+            entry,
+            reason: None,
+        })),
+        Entered::Whole(entry) => Ok(Stepped::Gives(Reader {
+            at,
+            groups: 0,
+            sum: 0,
+            count: 0,
+            entry,
+            reason: None,
+        })),
     }
 }
 
-// The reader after a byte.
-fn after_byte(r: Reader, b: u8) -> Stepped
-    requires { Readable r × (r.reason ≡ 0) × (r.at + 1 < number_end) }
-    ensures { (step_of result ≡ byte_in (state_of r) b) × Readable result.reader × (result.reader.at ≤ r.at + 1) }
+// The reader after a byte, or why that is refused.
+fn after_byte(r: Reader, b: u8) -> Result<Stepped, Reason>
+    requires { Readable r × (r.reason ≡ None) × (r.at + 1 < number_end) }
+    ensures { (step_of r result ≡ byte_in (state_of r) b) × StepFits r result }
 {
-    match log_numbers::take_byte(r.groups, r.sum, b) {
-        Taken::More(sum) => {
-            let mut x = r;
-            x.at = r.at + 1;
-            x.groups = r.groups + 1;
-            x.sum = sum;
-            Stepped {
-                reader: x,
-                whole: false,
-            }
-        }
+    match log_numbers::take_byte(r.groups, r.sum, b)? {
+        Taken::More(sum) => Ok(Stepped::On(Reader {
+            at: r.at + 1,
+            groups: r.groups + 1,
+            sum,
+            ..r
+        })),
         Taken::Whole(n) => after_number(r, n),
-        Taken::Wrong(reason) => refuse(r, reason),
     }
 }
 
@@ -128,73 +102,26 @@ fn is_between(r: Reader) -> bool
     (r.groups == 0) & (r.count == 0)
 }
 
-// A field of an entry, if its kind has so many.
-fn shown(fields: usize, i: usize, field: u64) -> u64
-    ensures { result ≡ cond (leb i fields) field 0 }
+// Puts an entry's six words at its place in a list.
+fn put_words(entries: &mut [u64], i: usize, words: &[u64; ENTRY_WORDS])
+    requires { entry_words * i + entry_words ≤ length entries.old }
+    ensures { entries.new ≡ splice entries.old (entry_words * i) words.now }
 {
-    if i <= fields { field } else { 0 }
+    let at = ENTRY_WORDS * i;
+    entries[at..at + ENTRY_WORDS].copy_from_slice(words);
 }
 
-// Puts six words into a list.
-fn put_six(
-    entries: &mut [u64],
-    at: usize,
-    kind: u64,
-    first: u64,
-    second: u64,
-    third: u64,
-    fourth: u64,
-    fifth: u64,
-)
-    requires { at + entry_words ≤ length entries.old }
-    ensures { entries.new ≡ splice entries.old at (kind ∷ first ∷ second ∷ third ∷ fourth ∷ fifth ∷ []) }
-{
-    entries[at] = kind;
-    entries[at + 1] = first;
-    entries[at + 2] = second;
-    entries[at + 3] = third;
-    entries[at + 4] = fourth;
-    entries[at + 5] = fifth;
-}
-
-// Puts an entry's words at its place in a list.
+// Puts an entry that is whole at its place in a list.
 fn put_entry(e: Entry, entries: &mut [u64], i: usize)
     requires { entry_words * i + entry_words ≤ length entries.old }
     ensures { entries.new ≡ splice entries.old (entry_words * i) (six_of (take (1 + length (fields_of e.kind)) (words_of e))) }
 {
-    let n = log_entries::fields_of(e.kind);
-    let first = shown(n, 1, e.first);
-    let second = shown(n, 2, e.second);
-    let third = shown(n, 3, e.third);
-    let fourth = shown(n, 4, e.fourth);
-    let fifth = shown(n, 5, e.fifth);
-    put_six(
-        entries,
-        ENTRY_WORDS * i,
-        e.kind,
-        first,
-        second,
-        third,
-        fourth,
-        fifth,
-    );
-}
-
-// Puts the entry that a step gives behind those that are there, and says how many there are then.
-fn put_step(s: Stepped, entries: &mut [u64], given: usize) -> usize
-    requires { entry_words * given + entry_words ≤ length entries.old }
-    ensures { (entries.new ≡ put_step entries.old given (step_of s)) × (result ≡ given_after given (step_of s)) }
-{
-    if s.whole {
-        let r = s.reader;
-        put_entry(r.entry, entries, given);
-        return given + 1;
-    }
-    given
+    let words = e.first_words(1 + log_entries::fields_of(e.kind));
+    put_words(entries, i, &words);
 }
 
 // A reader on its way through a piece: what it has taken of it, and how many entries it gave.
-#[derive(Clone, Copy)]
+#[derive(Clone, Copy, Debug, PartialEq, Eq)]
 struct Turn {
     reader: Reader,
     from: usize,
@@ -203,56 +130,60 @@ struct Turn {
 
 // Takes a byte of a piece.
 fn byte_turn(x: Turn, piece: &[u8], entries: &mut [u64]) -> Turn
-    requires { Readable x.reader × (x.reader.reason ≡ 0) × (x.reader.at + length piece.now < number_end + x.from) × (x.from < length piece.now) × (x.given < length entries.old / entry_words) }
+    requires { Readable x.reader × (x.reader.reason ≡ None) × (x.reader.at + length piece.now < number_end + x.from) × (x.from < length piece.now) × (x.given < length entries.old / entry_words) }
     ensures { Turned x.reader.at x.from (length piece.now) result.from result.reader (laid_left entries.old x.given (state_of x.reader) (drop x.from piece.now)) (laid_left entries.new result.given (state_of result.reader) (drop result.from piece.now)) }
 {
-    let r = x.reader;
-    let from = x.from;
-    let s = after_byte(r, piece[from]);
-    let given = put_step(s, entries, x.given);
-    let next = s.reader;
-    Turn {
-        reader: next,
-        from: from + 1,
-        given: given,
+    let from = x.from + 1;
+    match after_byte(x.reader, piece[x.from]) {
+        Ok(Stepped::On(reader)) => Turn {
+            reader,
+            from,
+            given: x.given,
+        },
+        Ok(Stepped::Gives(reader)) => {
+            put_entry(reader.entry, entries, x.given);
+            Turn {
+                reader,
+                from,
+                given: x.given + 1,
+            }
+        }
+        Err(reason) => Turn {
+            reader: Reader {
+                reason: Some(reason),
+                ..x.reader
+            },
+            from,
+            given: x.given,
+        },
     }
-}
-
-fn one_more(n: usize, below: usize) -> usize
-    requires { n < below }
-    ensures { result ≡ n + 1 }
-{
-    n + 1
 }
 
 // Takes a whole user access of a piece, if a plain one comes next; else a byte.
 fn one_turn(x: Turn, piece: &[u8], entries: &mut [u64]) -> Turn
-    requires { Readable x.reader × (x.reader.reason ≡ 0) × (x.reader.at + length piece.now < number_end + x.from) × (x.from < length piece.now) × (x.given < length entries.old / entry_words) }
+    requires { Readable x.reader × (x.reader.reason ≡ None) × (x.reader.at + length piece.now < number_end + x.from) × (x.from < length piece.now) × (x.given < length entries.old / entry_words) }
     ensures { Turned x.reader.at x.from (length piece.now) result.from result.reader (laid_left entries.old x.given (state_of x.reader) (drop x.from piece.now)) (laid_left entries.new result.given (state_of result.reader) (drop result.from piece.now)) }
 {
     let r = x.reader;
     let from = x.from;
     if is_between(r) & (USER_BYTES <= piece.len() - from) {
-        let u = log_quick::user_at(piece, from);
-        if u.count != 0 {
-            let at = ENTRY_WORDS * x.given;
-            let given = one_more(x.given, entries.len());
-            let mut next = r;
-            next.at = r.at + u.count as u64;
-            put_six(
-                entries,
-                at,
-                USER_ACCESS,
+        if let Some(u) = log_quick::user_at(piece, from) {
+            let words = [
+                Kind::UserAccess as u64,
                 u.process,
                 u.store,
                 u.width,
                 u.address,
                 u.value,
-            );
+            ];
+            put_words(entries, x.given, &words);
             return Turn {
-                reader: next,
+                reader: Reader {
+                    at: r.at + u.count as u64,
+                    ..r
+                },
                 from: from + u.count,
-                given: given,
+                given: x.given + 1,
             };
         }
     }
@@ -270,27 +201,24 @@ pub fn read(r: Reader, piece: &[u8], entries: &mut [u64]) -> Progress
         from: 0,
         given: 0,
     };
-    while (x.from < piece.len()) & (x.given < room) & (x.reader.reason == NONE) {
+    while (x.from < piece.len()) & (x.given < room) & x.reader.reason.is_none() {
         x = one_turn(x, piece, entries);
     }
-    let next = x.reader;
     Progress {
-        reader: next,
+        reader: x.reader,
         given: x.given,
     }
 }
 
 // Why the log is refused, if it has ended here or not.
-pub fn reason_of(r: Reader, ended: bool) -> u64
-    ensures { result ≡ reason_of (state_of r) ended }
+pub fn reason_of(r: Reader, ended: bool) -> Option<Reason>
+    ensures { refusal_of result ≡ reason_of (state_of r) ended }
 {
-    if r.reason != NONE {
-        return r.reason;
+    match r.reason {
+        Some(reason) => Some(reason),
+        None if ended & !is_between(r) => Some(Reason::Cut),
+        None => None,
     }
-    if ended & !is_between(r) {
-        return CUT;
-    }
-    NONE
 }
 
 // And where.
@@ -298,8 +226,8 @@ pub fn place_of(r: Reader) -> u64
     requires { Readable r }
     ensures { result ≡ place_of (state_of r) }
 {
-    if r.reason != NONE {
-        return r.at - r.groups;
+    match r.reason {
+        Some(_) => r.at - r.groups,
+        None => r.at,
     }
-    r.at
 }

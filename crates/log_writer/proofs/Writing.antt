@@ -12,14 +12,26 @@ use Rattle.log_numbers.specs.Numbers.{groups_of, groups_before, bytes_of}
 use Rattle.log_numbers.proofs.Groups.{groups-room}
 use Rattle.log_entries.specs.Entries.{fields_by_kind, fields_of, most, five_of}
 use Rattle.log_entries.specs.declared.Entry.{Entry}
+use Rattle.log_entries.proofs.Entries.{five-all}
 use Rattle.log_writer.specs.Writing.{first_wrong, numbers_of, entry_bytes, wrote, written, by_field, write_entry}
-use Rattle.log_writer.specs.declared.Wrote.{Wrote}
 
 -- ---- the first field that is too large
 
-module _ (e : Entry) (i limit field : ℕ) (p : 1 ≤ i) (q : i ≤ 5) (m : limit ≡ most e.kind (take (i - 1) (five_of e))) (f : field ≡ get_or (five_of e) (i - 1) 0) where
+module _ (e : Entry) (i limit field : ℕ) (p : 1 ≤ i) (q : i ≤ 5) (m : limit ≡ most e.kind (take (i - 1) (five_of e))) (f : field ≡ get_or e.fields (i - 1) 0) where
+  -- a field is there under its index
+  at_index : (j : ℕ) → j < 5 → get_or e.fields j 0 ≡ get_or (five_of e) j 0
+  at_index zero h = refl
+  at_index (suc zero) h = refl
+  at_index (suc (suc zero)) h = refl
+  at_index (suc (suc (suc zero))) h = refl
+  at_index (suc (suc (suc (suc zero)))) h = refl
+  at_index (suc (suc (suc (suc (suc j))))) h = absurd (omega (arith, h))
+
+  found : field ≡ get_or (five_of e) (i - 1) 0
+  found = f ∙ at_index (i - 1) (omega arith)
+
   here : drop (i - 1) (five_of e) ≡ field ∷ drop i (five_of e)
-  here = let d : suc (i - 1) ≡ i = omega arith in drop-cons (five_of e) (i - 1) 0 (omega arith) ∙ rw (d, f)
+  here = let d : suc (i - 1) ≡ i = omega arith in drop-cons (five_of e) (i - 1) 0 (omega arith) ∙ rw (d, found)
 
   -- this one is
   pub wrong-here : (w : ℕ) → w ≡ first_wrong e.kind (take (i - 1) (five_of e)) (drop (i - 1) (five_of e)) → limit < field → i ≡ w
@@ -35,7 +47,7 @@ module _ (e : Entry) (i limit field : ℕ) (p : 1 ≤ i) (q : i ≤ 5) (m : limi
   wrong-later w x h =
       let d : i + 1 - 1 ≡ i = omega arith in
       let s : suc (i - 1) ≡ i = omega arith in
-      let t : take i (five_of e) ≡ take (i - 1) (five_of e) ++ field ∷ [] = ap (λ (k : ℕ). take k (five_of e)) (sym s) ∙ take-suc (five_of e) (i - 1) 0 (omega arith) ∙ rw f in
+      let t : take i (five_of e) ≡ take (i - 1) (five_of e) ++ field ∷ [] = ap (λ (k : ℕ). take k (five_of e)) (sym s) ∙ take-suc (five_of e) (i - 1) 0 (omega arith) ∙ rw found in
       x ∙ rw (here, sym m, le-leb field limit h, d, t)
 
 -- none is
@@ -67,17 +79,13 @@ module _ (l l₁ : List ℕ) (at at₁ n : ℕ) (ns : List ℕ) (put : (l₁ ≡
 pub kind-room : (l l₁ : List ℕ) (at n : ℕ) → (l₁ ≡ splice l 0 (groups_of n)) × (at ≡ 0 + length (groups_of n)) → entry_bytes ≤ length l → at + 50 ≤ length l₁
 kind-room l l₁ at n p h = rw (p.0, length-splice l 0 (groups_of n)) (omega (arith, p.1, groups-room groups_before n, h))
 
--- the fields from number i on, of n
-module _ (e : Entry) (n i field : ℕ) (p : 1 ≤ i) (q : i ≤ n) (r : n ≤ 5) (f : field ≡ get_or (five_of e) (i - 1) 0) where
-  pub fields-here : drop (i - 1) (take n (five_of e)) ≡ field ∷ drop (i + 1 - 1) (take n (five_of e))
-  fields-here =
-      let d : suc (i - 1) ≡ i + 1 - 1 = omega arith in
-      let l = length-take-le n (five_of e) r in
-      drop-cons (take n (five_of e)) (i - 1) 0 (omega (arith, l)) ∙ rw (d, f, get_or-take n (five_of e) (i - 1) 0 (omega arith))
+-- the numbers from one on
+pub numbers-here : (ns : List ℕ) (i : ℕ) → i < length ns → drop i ns ≡ get_or ns i 0 ∷ drop (i + 1) ns
+numbers-here ns i h = let d : suc i ≡ i + 1 = omega arith in drop-cons ns i 0 h ∙ rw d
 
--- after the last field there are none
-pub fields-end : (e : Entry) (n i : ℕ) → n < i → n ≤ 5 → drop (i - 1) (take n (five_of e)) ≡ []
-fields-end e n i h r = drop_of_length-le (take n (five_of e)) {i = i - 1} (omega (arith, length-take-le n (five_of e) r))
+-- after the last there are none
+pub numbers-end : (ns : List ℕ) (i : ℕ) → length ns ≤ i → drop i ns ≡ []
+numbers-end ns i h = drop_of_length-le ns {i = i} h
 
 module _ (l : List ℕ) (at : ℕ) (ns : List ℕ) (none : ns ≡ []) where
   pub bytes-end : splice l at (bytes_of ns) ≡ l
@@ -90,52 +98,56 @@ module _ (l : List ℕ) (at : ℕ) (ns : List ℕ) (none : ns ≡ []) where
 
 -- ---- the numbers of an entry
 
-module _ (kind n : ℕ) (five : List ℕ) (f : n ≡ length (fields_of kind)) where
-  numbers-none : kind ≡ 0 → numbers_of kind five ≡ take n five
+module _ (kind n : ℕ) (fields : List ℕ) (many : length fields ≡ 5) (f : n ≡ length (fields_of kind)) where
+  abbrev five : List ℕ
+  five = five_of (record { kind = kind; fields = fields })
+
+  -- five fields are all
+  same : take n fields ≡ take n five
+  same = ap (take n) (sym (five-all fields many))
+
+  numbers-none : kind ≡ 0 → numbers_of kind five ≡ take n fields
   unfolding numbers_of
-  numbers-none z = rw (eq-eqb kind 0 z, f)
+  numbers-none z = rw (eq-eqb kind 0 z, sym f) (sym same)
 
   -- a header has no kind
-  pub numbers-header : (l l₁ : List ℕ) (r : ℕ) → kind ≡ 0 → (l₁ ≡ splice l 0 (bytes_of (take n five))) × (r ≡ 0 + length (bytes_of (take n five)))
+  pub numbers-header : (l l₁ : List ℕ) (r : ℕ) → kind ≡ 0 → (l₁ ≡ splice l 0 (bytes_of (take n fields))) × (r ≡ 0 + length (bytes_of (take n fields)))
       → (l₁ ≡ splice l 0 (bytes_of (numbers_of kind five))) × (r ≡ length (bytes_of (numbers_of kind five)))
   numbers-header l l₁ r z p = rw (numbers-none z) (p.0, p.1 ∙ omega arith)
 
-  numbers-kind : (kind ≡ 0 → ⊥) → numbers_of kind five ≡ kind ∷ take n five
+  numbers-kind : (kind ≡ 0 → ⊥) → numbers_of kind five ≡ kind ∷ take n fields
   unfolding numbers_of
-  numbers-kind z = rw (ne_eqb kind 0 z, f)
+  numbers-kind z = rw (ne_eqb kind 0 z, sym f) (ap (λ (l : List ℕ). kind ∷ l) (sym same))
 
   -- a call has
   pub numbers-call : (l l₁ l₂ : List ℕ) (at r : ℕ) → (kind ≡ 0 → ⊥) → (l₁ ≡ splice l 0 (groups_of kind)) × (at ≡ 0 + length (groups_of kind))
-      → (l₂ ≡ splice l₁ at (bytes_of (take n five))) × (r ≡ at + length (bytes_of (take n five)))
+      → (l₂ ≡ splice l₁ at (bytes_of (take n fields))) × (r ≡ at + length (bytes_of (take n fields)))
       → (l₂ ≡ splice l 0 (bytes_of (numbers_of kind five))) × (r ≡ length (bytes_of (numbers_of kind five)))
   numbers-call l l₁ l₂ at r z k p =
-      rw (numbers-kind z) (p.0 ∙ sym (bytes-more l l₁ 0 at kind (take n five) k), p.1 ∙ sym (count-more l l₁ 0 at kind (take n five) k) ∙ omega arith)
+      rw (numbers-kind z) (p.0 ∙ sym (bytes-more l l₁ 0 at kind (take n fields) k), p.1 ∙ sym (count-more l l₁ 0 at kind (take n fields) k) ∙ omega arith)
 
 -- ---- an entry
 
-module _ (e : Entry) (l : List ℕ) (w : Wrote) (reason amount : ℕ) (is : (w.reason ≡ reason) × (w.amount ≡ amount)) where
-  is-wrote : (list : List ℕ) → written w list ≡ written (wrote reason amount) list
-  is-wrote list = rw (is.0, is.1)
-
-  pub entry-short : reason ≡ 1 → amount ≡ 0 → length l < entry_bytes → written w l ≡ write_entry e l
+module _ (e : Entry) (l : List ℕ) where
+  pub entry-short : length l < entry_bytes → written (wrote 1 0) l ≡ write_entry e l
   unfolding write_entry
-  entry-short r a h = is-wrote l ∙ rw (lt-ltb (length l) entry_bytes h, r, a)
+  entry-short h = rw (lt-ltb (length l) entry_bytes h)
 
   module _ (room : entry_bytes ≤ length l) where
-    pub entry-unknown : reason ≡ 5 → amount ≡ 0 → length fields_by_kind ≤ e.kind → written w l ≡ write_entry e l
+    pub entry-unknown : length fields_by_kind ≤ e.kind → written (wrote 5 0) l ≡ write_entry e l
     unfolding write_entry
-    entry-unknown r a h = is-wrote l ∙ rw (le-ltb (length l) entry_bytes room, le-ltb e.kind (length fields_by_kind) h, r, a)
+    entry-unknown h = rw (le-ltb (length l) entry_bytes room, le-ltb e.kind (length fields_by_kind) h)
 
-    module _ (known : e.kind < length fields_by_kind) (i : ℕ) (first : i ≡ first_wrong e.kind [] (five_of e)) where
-      pub entry-wrong : reason ≡ 6 → amount ≡ i → (i ≡ 0 → ⊥) → written w l ≡ write_entry e l
+    module _ (known : e.kind < length fields_by_kind) where
+      pub entry-wrong : (i : ℕ) → i ≡ first_wrong e.kind [] (five_of e) → 1 ≤ i → written (wrote 6 i) l ≡ write_entry e l
       unfolding write_entry by_field
-      entry-wrong r a h = is-wrote l ∙ rw (le-ltb (length l) entry_bytes room, lt-ltb e.kind (length fields_by_kind) known, sym first, r, a) (go i h)
+      entry-wrong i first some = rw (le-ltb (length l) entry_bytes room, lt-ltb e.kind (length fields_by_kind) known, sym first) (go i some)
         where
-          go : (j : ℕ) → (j ≡ 0 → ⊥) → written (wrote 6 j) l ≡ by_field j e.kind (five_of e) l
-          go zero z = absurd (z refl)
+          go : (j : ℕ) → 1 ≤ j → written (wrote 6 j) l ≡ by_field j e.kind (five_of e) l
+          go zero z = absurd (omega (arith, z))
           go (suc j) z = refl
 
-      pub entry-written : (l₁ : List ℕ) → reason ≡ 0 → i ≡ 0
-          → (l₁ ≡ splice l 0 (bytes_of (numbers_of e.kind (five_of e)))) × (amount ≡ length (bytes_of (numbers_of e.kind (five_of e)))) → written w l₁ ≡ write_entry e l
+      pub entry-written : (l₁ : List ℕ) (amount : ℕ) → first_wrong e.kind [] (five_of e) ≡ 0
+          → (l₁ ≡ splice l 0 (bytes_of (numbers_of e.kind (five_of e)))) × (amount ≡ length (bytes_of (numbers_of e.kind (five_of e)))) → written (wrote 0 amount) l₁ ≡ write_entry e l
       unfolding write_entry by_field
-      entry-written l₁ r z p = is-wrote l₁ ∙ rw (le-ltb (length l) entry_bytes room, lt-ltb e.kind (length fields_by_kind) known, sym first, z, r, p.0, p.1)
+      entry-written l₁ amount z p = rw (le-ltb (length l) entry_bytes room, lt-ltb e.kind (length fields_by_kind) known, z, p.0, p.1)

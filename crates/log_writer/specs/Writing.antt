@@ -1,11 +1,12 @@
 -- CR 1: an entry is written as the bytes of its numbers. One that a log can't hold is refused with the field that is wrong, and nothing is written.
-use Rattle.std.specs.Prelude.{ℕ, zero, suc, cond, List, [], ◌∷◌, ◌++◌, length, take, eqb, ltb, leb}
+use Rattle.std.specs.Prelude.{ℕ, zero, suc, ◌≤◌, ◌≡◌, cond, Option, MatchOption, Result, Ok, Err, List, [], ◌∷◌, ◌++◌, length, take, eqb, ltb, leb}
 use Rattle.board.specs.Lists.{splice}
 use Rattle.log_numbers.specs.Numbers.{bytes_of}
 use Rattle.log_numbers.specs.Reasons.{reason_none, reason_misfit, reason_kind, reason_field}
 use Rattle.log_entries.specs.Entries.{fields_by_kind, fields_of, most, five_of}
 use Rattle.log_entries.specs.declared.Entry.{Entry}
-use Rattle.log_writer.specs.declared.Wrote.{Wrote}
+use Rattle.log_writer.specs.declared.Refused.{Refused}
+use Rattle.log_writer.specs.declared.Refused.TheVariants.{Short, Kind, Field}
 
 -- the number, from 1, of the first field that is too large; 0 if none is. A field that the kind doesn't have is too large unless it is 0
 unfoldable pub first_wrong : ℕ → List ℕ → List ℕ → ℕ
@@ -21,6 +22,10 @@ abbrev pub entry_bytes : ℕ
 entry_bytes = 60
 
 -- why it is refused, and the field that is wrong; or 0, and how many bytes were written
+pub record Wrote : Type 0 where
+  pub reason : ℕ
+  pub amount : ℕ
+
 abbrev pub wrote : ℕ → ℕ → Wrote
 wrote reason amount = record { reason = reason; amount = amount }
 
@@ -43,3 +48,16 @@ write_entry e bytes =
     cond (ltb (length bytes) entry_bytes) (written (wrote reason_misfit 0) bytes)
     (cond (ltb e.kind (length fields_by_kind)) (by_field (first_wrong e.kind [] (five_of e)) e.kind (five_of e) bytes)
     (written (wrote reason_kind 0) bytes))
+
+-- ---- as code has it
+
+-- the first field that is too large, if one is
+abbrev pub FirstWrong : Entry → Option ℕ → Type 0
+FirstWrong e r = MatchOption r (first_wrong e.kind [] (five_of e) ≡ 0) (λ i. (i ≡ first_wrong e.kind [] (five_of e)) × (1 ≤ i) × (i ≤ 5))
+
+-- what a call gives
+abbrev pub wrote_of : Result ℕ Refused → Wrote
+wrote_of (Ok amount) = wrote reason_none amount
+wrote_of (Err Short) = wrote reason_misfit 0
+wrote_of (Err Kind) = wrote reason_kind 0
+wrote_of (Err (Field i)) = wrote reason_field i

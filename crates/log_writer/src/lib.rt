@@ -1,50 +1,47 @@
 // Writes an entry of a log (CR 1).
 #![tactic(auto)]
 
-ghost use Rattle.std.specs.Prelude.{◌≡◌, ◌+◌, ◌<◌, ◌≤◌, [], length, take};
+ghost use Rattle.std.specs.Prelude.{◌≡◌, ◌+◌, ◌*◌, ◌<◌, ◌≤◌, [], length};
 ghost use Rattle.board.specs.Lists.{splice};
 ghost use Rattle.log_numbers.specs.Numbers.{bytes_of};
 ghost use Rattle.log_entries.specs.Entries.{fields_by_kind, five_of};
-ghost use Rattle.log_writer.specs.Writing.{first_wrong, numbers_of, entry_bytes, written, write_entry};
+ghost use Rattle.log_writer.specs.Writing.{FirstWrong, numbers_of, entry_bytes, wrote_of, written, write_entry};
 
-use log_entries::{Entry, HEADER, KINDS, MOST_FIELDS, field_of, most_of};
-use log_numbers::{FIELD, KIND, MISFIT, NONE, put_number};
+use log_entries::{Entry, Kind, MOST_FIELDS, most_of};
+use log_numbers::put_number;
 
 // A buffer of this many bytes has room for any entry.
 pub const ENTRY_BYTES: usize = 60;
 
-// Why an entry is refused, and the field that is wrong; or 0, and how many bytes were written.
-#[derive(Clone, Copy)]
-pub struct Wrote {
-    pub reason: u64,
-    pub amount: usize,
+// Why an entry is refused: the buffer is too short; its kind isn't known; the field with this number, from 1, is too large.
+#[derive(Clone, Copy, Debug, PartialEq, Eq)]
+pub enum Refused {
+    Short,
+    Kind,
+    Field(usize),
 }
 
-// The number of the first field that is too large, or 0.
-fn first_wrong(e: Entry) -> usize
+// The number of the first field that is too large, if one is.
+fn first_wrong(e: Entry) -> Option<usize>
     requires { e.kind < length fields_by_kind }
-    ensures { (result ≡ first_wrong e.kind [] (five_of e)) × (result ≤ 5) }
+    ensures { FirstWrong e result }
 {
-    let mut i: usize = 1;
-    while i <= MOST_FIELDS {
-        if most_of(e, i) < field_of(e, i) {
-            return i;
+    for i in 1..=MOST_FIELDS {
+        if most_of(e, i) < e.fields[i - 1] {
+            return Some(i);
         }
-        i += 1;
     }
-    0
+    None
 }
 
-// Writes the first n fields of an entry from `at` on, and says where they end.
-fn put_fields(e: Entry, n: usize, bytes: &mut [u8], at: usize) -> usize
-    requires { (n ≤ 5) × (at + 50 ≤ length bytes.old) }
-    ensures { (bytes.new ≡ splice bytes.old at (bytes_of (take n (five_of e)))) × (result ≡ at + length (bytes_of (take n (five_of e)))) × (result ≤ at + 50) }
+// Writes numbers from `at` on, and says where they end.
+fn put_all(numbers: &[u64], bytes: &mut [u8], at: usize) -> usize
+    requires { at + 10 * length numbers.now ≤ length bytes.old }
+    ensures { (bytes.new ≡ splice bytes.old at (bytes_of numbers.now)) × (result ≡ at + length (bytes_of numbers.now)) × (result ≤ at + 10 * length numbers.now) }
 {
     let mut next = at;
-    let mut i: usize = 1;
-    while i <= n {
-        next = put_number(field_of(e, i), bytes, next);
-        i += 1;
+    for number in numbers {
+        next = put_number(*number, bytes, next);
     }
     next
 }
@@ -54,37 +51,26 @@ fn put_numbers(e: Entry, bytes: &mut [u8]) -> usize
     requires { (e.kind < length fields_by_kind) × (entry_bytes ≤ length bytes.old) }
     ensures { (bytes.new ≡ splice bytes.old 0 (bytes_of (numbers_of e.kind (five_of e)))) × (result ≡ length (bytes_of (numbers_of e.kind (five_of e)))) × (result ≤ entry_bytes) }
 {
-    let n = log_entries::fields_of(e.kind);
-    if e.kind == HEADER {
-        return put_fields(e, n, bytes, 0);
+    let fields = &e.fields[..log_entries::fields_of(e.kind)];
+    if e.kind == Kind::Header as u64 {
+        return put_all(fields, bytes, 0);
     }
     let at = put_number(e.kind, bytes, 0);
-    put_fields(e, n, bytes, at)
+    put_all(fields, bytes, at)
 }
 
-fn wrote_as(reason: u64, amount: usize) -> Wrote
-    ensures { (result.reason ≡ reason) × (result.amount ≡ amount) }
-{
-    Wrote {
-        reason: reason,
-        amount: amount,
-    }
-}
-
-// Writes an entry at the front of a buffer.
-pub fn write(e: Entry, bytes: &mut [u8]) -> Wrote
-    ensures { (written result bytes.new ≡ write_entry e bytes.old) × (result.reason ≤ 6) × (result.amount ≤ entry_bytes) }
+// Writes an entry at the front of a buffer, and says how many bytes it has.
+pub fn write(e: Entry, bytes: &mut [u8]) -> Result<usize, Refused>
+    ensures { (written (wrote_of result) bytes.new ≡ write_entry e bytes.old) × ((wrote_of result).reason ≤ 6) × ((wrote_of result).amount ≤ entry_bytes) }
 {
     if bytes.len() < ENTRY_BYTES {
-        return wrote_as(MISFIT, 0);
+        return Err(Refused::Short);
     }
-    if KINDS <= e.kind {
-        return wrote_as(KIND, 0);
+    let Ok(_) = Kind::try_from(e.kind) else {
+        return Err(Refused::Kind);
+    };
+    match first_wrong(e) {
+        Some(i) => Err(Refused::Field(i)),
+        None => Ok(put_numbers(e, bytes)),
     }
-    let i = first_wrong(e);
-    if i != 0 {
-        return wrote_as(FIELD, i);
-    }
-    let n = put_numbers(e, bytes);
-    wrote_as(NONE, n)
 }

@@ -1,14 +1,15 @@
 -- How a log's reader and writer cross to C and Rust: a reader as eleven words, an entry as six.
-use Rattle.std.specs.Prelude.{ℕ, ◌+◌, ◌-◌, ◌/◌, ◌%◌, ◌^◌, Bool, ◌&&◌, ◌||◌, cond, List, [], ◌∷◌, length, get_or, eqb, ltb, leb}
+use Rattle.std.specs.Prelude.{ℕ, ◌+◌, ◌-◌, ◌/◌, ◌%◌, ◌^◌, ◌≡◌, Bool, true, false, ◌&&◌, ◌||◌, cond, Option, Result, MatchResult, take, List, [], ◌∷◌, length, get_or, eqb, ltb, leb}
 use Rattle.log_numbers.specs.Numbers.{group_size, groups_before, number_end}
 use Rattle.log_numbers.specs.Reasons.{reason_none, reason_misfit, reason_padded, reason_tenth, reason_kind, reason_field}
-use Rattle.log_entries.specs.Entries.{fields_of, entry_words}
-use Rattle.log_entries.specs.declared.Entry.{Entry}
-use Rattle.log_reader.specs.Reading.{State, read_into, reason_of, place_of}
-use Rattle.log_reader.specs.Readers.{state_of, Laid, laid_from}
+use Rattle.log_numbers.specs.Takes.{refusal_of}
+use Rattle.log_numbers.specs.declared.Reason.{Reason}
+use Rattle.log_numbers.specs.declared.Reason.TheVariants.{Misfit}
+use Rattle.log_entries.specs.Entries.{fields_of, entry_words, entry_from, words_of}
+use Rattle.log_reader.specs.Reading.{State, state, read_into, reason_of, place_of}
+use Rattle.log_reader.specs.Readers.{state_of, Readable, Laid, laid_from}
 use Rattle.log_reader.specs.declared.Reader.{Reader}
-use Rattle.log_writer.specs.declared.Wrote.{Wrote}
-use Rattle.log_writer.specs.Writing.{Written, write_entry, written, wrote}
+use Rattle.log_writer.specs.Writing.{Wrote, Written, write_entry, written, wrote}
 
 -- ---- a reader
 
@@ -19,32 +20,10 @@ reader_words = 11
 abbrev pub word_at : List ℕ → ℕ → ℕ
 word_at words i = get_or words i 0
 
--- the entry whose six words stand from i on
-abbrev pub entry_from : List ℕ → ℕ → Entry
-entry_from words i =
-    record {
-      kind = word_at words i;
-      first = word_at words (i + 1);
-      second = word_at words (i + 2);
-      third = word_at words (i + 3);
-      fourth = word_at words (i + 4);
-      fifth = word_at words (i + 5);
-    }
-
--- the reader with these words. Of its entry's words the first so many count, whatever the others are
-abbrev pub reader_in : List ℕ → Reader
-reader_in words =
-    record {
-      at = word_at words 0;
-      groups = word_at words 1;
-      sum = word_at words 2;
-      count = word_at words 3;
-      entry = entry_from words 4;
-      reason = word_at words 10;
-    }
-
+-- where the reader with these words stands. Of its entry's words the first so many count, whatever the others are
 abbrev pub state_in : List ℕ → State
-state_in words = state_of (reader_in words)
+state_in words =
+    state (word_at words 0) (word_at words 1) (word_at words 2) (take (word_at words 3) (words_of (entry_from words 4))) (word_at words 10)
 
 -- and the words of a reader that stands here: 0 for the numbers that aren't there
 abbrev pub words_of_state : State → List ℕ
@@ -60,14 +39,17 @@ fresh_words = 0 ∷ 0 ∷ 0 ∷ 1 ∷ 0 ∷ 0 ∷ 0 ∷ 0 ∷ 0 ∷ 0 ∷ 0 ∷ 
 unfoldable pub is_reason : ℕ → Bool
 is_reason reason = eqb reason reason_none || (eqb reason reason_padded || (eqb reason reason_tenth || (eqb reason reason_kind || eqb reason reason_field)))
 
--- what a reader may be
-unfoldable pub may_read : Reader → Bool
-may_read r =
-    leb r.groups groups_before
-    && (leb r.groups r.at && (ltb r.sum (group_size ^ r.groups) && (leb r.count (length (fields_of r.entry.kind)) && is_reason r.reason)))
+-- where a reader may stand, but for its reason: bytes taken; groups, and what they are worth; how many numbers of an entry of this kind
+unfoldable pub stands : ℕ → ℕ → ℕ → ℕ → ℕ → Bool
+stands at groups sum count kind =
+    leb groups groups_before && (leb groups at && (ltb sum (group_size ^ groups) && leb count (length (fields_of kind))))
+
+-- what a reader's words may be
+unfoldable pub may_read : List ℕ → Bool
+may_read words = stands (word_at words 0) (word_at words 1) (word_at words 2) (word_at words 3) (word_at words 4) && is_reason (word_at words 10)
 
 unfoldable pub is_reader : List ℕ → Bool
-is_reader words = eqb (length words) reader_words && may_read (reader_in words)
+is_reader words = eqb (length words) reader_words && may_read words
 
 -- what a call that reads leaves: how many entries it gave; the reader's words; the list of entries
 pub record Read : Type 0 where
@@ -111,3 +93,13 @@ wrote_in r = wrote (r / reason_unit) (r % reason_unit)
 
 unfoldable pub log_write : List ℕ → List ℕ → Written
 log_write words bytes = cond (eqb (length words) entry_words) (write_entry (entry_from words 0) bytes) (written (wrote reason_misfit 0) bytes)
+
+-- ---- as code has it
+
+-- why a reader has refused, by its word, or a misfit
+abbrev pub IsRefusalIn : ℕ → Result (Option Reason) Reason → Type 0
+IsRefusalIn word r = MatchResult r (λ reason. (refusal_of reason ≡ word) × (is_reason word ≡ true)) (λ e. (e ≡ Misfit) × (is_reason word ≡ false))
+
+-- the reader with these words, or a misfit
+abbrev pub IsReaderIn : List ℕ → Result Reader Reason → Type 0
+IsReaderIn words r = MatchResult r (λ x. (is_reader words ≡ true) × (state_of x ≡ state_in words) × Readable x) (λ e. (e ≡ Misfit) × (is_reader words ≡ false))

@@ -1,15 +1,17 @@
 // A log's reader and writer for C and Rust. A reader is eleven words, an entry six. `oaledva_log_c` exports the four calls.
 #![tactic(auto)]
 
-ghost use Rattle.std.specs.Prelude.{◌≡◌, cond, ◌+◌, ◌≤◌, ltb, length};
+ghost use Rattle.std.specs.Prelude.{◌≡◌, ◌+◌, ◌≤◌, length};
 ghost use Rattle.board.specs.Lists.{is_yes};
+ghost use Rattle.log_numbers.specs.Takes.{refusal_of};
 ghost use Rattle.log_reader.specs.Readers.{state_of};
 ghost use Rattle.log_writer.specs.Writing.{written};
-ghost use Rattle.oaledva_log.specs.States.{reader_words, entry_from, reader_in, words_of_state, is_reason, may_read, read, log_read, log_reason, log_place, wrote_in, log_write};
+ghost use Rattle.oaledva_log.specs.States.{reader_words, stands, IsRefusalIn, IsReaderIn, words_of_state, read, log_read, log_reason, log_place, wrote_in, log_write};
 
 use log_entries::{ENTRY_WORDS, Entry};
-use log_numbers::{FIELD, GROUPS_BEFORE, KIND, MISFIT, NONE, PADDED, TENTH};
+use log_numbers::{GROUPS_BEFORE, Reason};
 use log_reader::Reader;
+use log_writer::Refused;
 
 // The words of a reader: bytes taken; groups, and what they are worth; how many numbers of the entry there are; the entry's six
 // words; why the log was refused.
@@ -24,63 +26,64 @@ const LAST_BYTE: u64 = u64::MAX;
 // Where the reason stands in what a call gives that writes.
 const REASON_UNIT: u64 = 4294967296;
 
-// An entry by six words of a list.
-fn entry_from(words: &[u64], i: usize) -> Entry
-    requires { i + 6 ≤ length words.now }
-    ensures { result ≡ entry_from words.now i }
+// A reason's number, or 0.
+fn number_of(reason: Option<Reason>) -> u64
+    ensures { result ≡ refusal_of reason }
 {
-    Entry {
-        kind: words[i],
-        first: words[i + 1],
-        second: words[i + 2],
-        third: words[i + 3],
-        fourth: words[i + 4],
-        fifth: words[i + 5],
+    match reason {
+        Some(why) => why.number(),
+        None => 0,
     }
 }
 
-// A reader by its words.
-fn reader_in(words: &[u64]) -> Reader
-    requires { length words.now ≡ reader_words }
-    ensures { result ≡ reader_in words.now }
+// Why a reader has refused, by its word, if a reader may have refused so: what a log that hasn't ended is refused for, or nothing.
+fn reason_in(word: u64) -> Result<Option<Reason>, Reason>
+    ensures { IsRefusalIn word result }
 {
-    let entry = entry_from(words, 4);
-    Reader {
+    if word == 0 {
+        return Ok(None);
+    }
+    match Reason::try_from(word)? {
+        Reason::Misfit | Reason::Cut => Err(Reason::Misfit),
+        reason => Ok(Some(reason)),
+    }
+}
+
+// What a reader may be, but for its reason.
+fn may_read(r: Reader) -> bool
+    ensures { result ≡ stands r.at r.groups r.sum r.count r.entry.kind }
+{
+    if GROUPS_BEFORE < r.groups {
+        return false;
+    }
+    let end = log_numbers::weight(r.groups);
+    let fields = log_entries::fields_of(r.entry.kind);
+    (r.groups <= r.at) & ((r.sum < end) & (r.count <= fields))
+}
+
+// A reader by its words, if they are a reader's.
+fn reader_in(words: &[u64]) -> Result<Reader, Reason>
+    ensures { IsReaderIn words.now result }
+{
+    if words.len() != READER_WORDS {
+        return Err(Reason::Misfit);
+    }
+    let r = Reader {
         at: words[0],
         groups: words[1],
         sum: words[2],
         count: words[3] as usize,
-        entry: entry,
-        reason: words[10],
+        entry: Entry {
+            kind: words[4],
+            fields: [words[5], words[6], words[7], words[8], words[9]],
+        },
+        reason: reason_in(words[10])?,
+    };
+    if may_read(r) {
+        Ok(r)
+    } else {
+        Err(Reason::Misfit)
     }
-}
-
-// Why a reader may have refused.
-fn is_reason(reason: u64) -> bool
-    ensures { result ≡ is_reason reason }
-{
-    (reason == NONE)
-        | ((reason == PADDED) | ((reason == TENTH) | ((reason == KIND) | (reason == FIELD))))
-}
-
-// What a reader may be.
-fn may_read(r: Reader) -> bool
-    ensures { result ≡ may_read r }
-{
-    if r.groups <= GROUPS_BEFORE {
-        let end = log_numbers::weight(r.groups);
-        let fields = log_entries::fields_of(r.entry.kind);
-        let reason = is_reason(r.reason);
-        return (r.groups <= r.at) & ((r.sum < end) & ((r.count <= fields) & reason));
-    }
-    false
-}
-
-// A number of an entry, if there are so many.
-fn shown(count: usize, i: usize, number: u64) -> u64
-    ensures { result ≡ cond (ltb i count) number 0 }
-{
-    if i < count { number } else { 0 }
 }
 
 // Puts a reader's words: of its entry those that are there, 0 for the others.
@@ -88,83 +91,72 @@ fn put_reader(r: Reader, words: &mut [u64])
     requires { (length words.old ≡ reader_words) × (r.count ≤ 6) }
     ensures { words.new ≡ words_of_state (state_of r) }
 {
-    let n = r.count;
-    let e = r.entry;
-    let kind = shown(n, 0, e.kind);
-    let first = shown(n, 1, e.first);
-    let second = shown(n, 2, e.second);
-    let third = shown(n, 3, e.third);
-    let fourth = shown(n, 4, e.fourth);
-    let fifth = shown(n, 5, e.fifth);
-    words[0] = r.at;
-    words[1] = r.groups;
-    words[2] = r.sum;
-    words[3] = n as u64;
-    words[4] = kind;
-    words[5] = first;
-    words[6] = second;
-    words[7] = third;
-    words[8] = fourth;
-    words[9] = fifth;
-    words[10] = r.reason;
+    let [kind, first, second, third, fourth, fifth] = r.entry.first_words(r.count);
+    let eleven = [
+        r.at,
+        r.groups,
+        r.sum,
+        r.count as u64,
+        kind,
+        first,
+        second,
+        third,
+        fourth,
+        fifth,
+        number_of(r.reason),
+    ];
+    words.copy_from_slice(&eleven);
 }
 
 // Reads a piece of a log: whole entries into a list, six words for each.
 pub fn oaledva_log_read(state: &mut [u64], piece: &[u8], entries: &mut [u64]) -> u64
     ensures { read result state.new entries.new ≡ log_read state.old piece.now entries.old }
 {
-    if state.len() == READER_WORDS {
-        let r = reader_in(state);
-        if may_read(r) {
-            if (piece.len() as u64 <= LAST_BYTE - r.at) & (entries.len() % ENTRY_WORDS == 0) {
-                let x = log_reader::read(r, piece, entries);
-                let next = x.reader;
-                put_reader(next, state);
-                return x.given as u64;
-            }
-            return NO_ENTRIES;
-        }
+    let Ok(r) = reader_in(state) else {
+        return NO_ENTRIES;
+    };
+    if LAST_BYTE - r.at < piece.len() as u64 {
         return NO_ENTRIES;
     }
-    NO_ENTRIES
+    if entries.len() % ENTRY_WORDS != 0 {
+        return NO_ENTRIES;
+    }
+    let x = log_reader::read(r, piece, entries);
+    put_reader(x.reader, state);
+    x.given as u64
 }
 
 // Why a log is refused, if it has ended here or not.
 pub fn oaledva_log_reason(state: &[u64], ended: u32) -> u64
     ensures { result ≡ log_reason state.now (is_yes ended) }
 {
-    if state.len() == READER_WORDS {
-        let r = reader_in(state);
-        if may_read(r) {
-            return log_reader::reason_of(r, ended != 0);
-        }
-        return MISFIT;
+    match reader_in(state) {
+        Ok(r) => number_of(log_reader::reason_of(r, ended != 0)),
+        Err(reason) => reason.number(),
     }
-    MISFIT
 }
 
 // And where.
 pub fn oaledva_log_place(state: &[u64]) -> u64
     ensures { result ≡ log_place state.now }
 {
-    if state.len() == READER_WORDS {
-        let r = reader_in(state);
-        if may_read(r) {
-            return log_reader::place_of(r);
-        }
-        return 0;
+    match reader_in(state) {
+        Ok(r) => log_reader::place_of(r),
+        Err(_) => 0,
     }
-    0
 }
 
 // Writes an entry at the front of a buffer.
 pub fn oaledva_log_write(entry: &[u64], bytes: &mut [u8]) -> u64
     ensures { written (wrote_in result) bytes.new ≡ log_write entry.now bytes.old }
 {
-    if entry.len() == ENTRY_WORDS {
-        let e = entry_from(entry, 0);
-        let x = log_writer::write(e, bytes);
-        return x.reason * REASON_UNIT + x.amount as u64;
+    if entry.len() != ENTRY_WORDS {
+        return Reason::Misfit as u64 * REASON_UNIT;
     }
-    MISFIT * REASON_UNIT
+    match log_writer::write(Entry::of_words(entry), bytes) {
+        Ok(amount) => amount as u64,
+        Err(Refused::Short) => Reason::Misfit as u64 * REASON_UNIT,
+        Err(Refused::Kind) => Reason::Kind as u64 * REASON_UNIT,
+        Err(Refused::Field(i)) => Reason::Field as u64 * REASON_UNIT + i as u64,
+    }
 }

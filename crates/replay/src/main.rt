@@ -8,11 +8,7 @@ ghost use Rattle.replay.specs.Sizes.{Small, Largest, piece_bytes};
 
 use address::{Effective, Global};
 use board::{Answer, LINE_BYTES, PAGE_BYTES, PROCESS_SLOTS, Pending, RECORD_WORDS, Shape};
-use log_entries::{
-    ATTACH, DETACH, DROP_TAG, ENTRY_WORDS, Entry, FLUSH_ALL, HEADER, MAP, MOVE, PROTECT,
-    SUPERVISOR_ACCESS, TAG, UNMAP, USER_ACCESS, WORD_MOST,
-};
-use log_numbers::{CUT, FIELD, KIND, NONE, PADDED, TENTH};
+use log_entries::{ENTRY_WORDS, Entry, Kind, WORD_MOST};
 use log_reader::Reader;
 use std::env::FillError;
 use std::fmt::InlineText;
@@ -50,7 +46,7 @@ const MOST_BYTES: u64 = u64::MAX;
 const WORD_END: u64 = WORD_MOST + 1;
 
 // One more reason for which a log is refused: its board is too large for this program.
-const LARGE: u64 = 7;
+const LARGE: &str = "a board of more than 8 frames, 64 lines or 16 processes";
 
 // Linux's number for a name that is too long: the log's is at most so many bytes.
 const NAME_TOO_LONG: i32 = 36;
@@ -113,23 +109,33 @@ fn change_slot_or_tag(
     e: Entry,
 ) -> Tagged {
     let none: [[[u8; 4]; 4]; 0] = [];
-    let process = e.first as usize;
-    let slot = e.second as usize;
-    if e.kind == ATTACH {
-        let write = e.fourth != 0;
+    let process = e.fields[0] as usize;
+    let slot = e.fields[1] as usize;
+    if e.kind == Kind::Attach as u64 {
+        let write = e.fields[3] != 0;
         let a = slot_calls::attach(
-            s, slots, words, records, cache, memory, &none, process, slot, e.third, write,
+            s,
+            slots,
+            words,
+            records,
+            cache,
+            memory,
+            &none,
+            process,
+            slot,
+            e.fields[2],
+            write,
         );
         return kept(a, tag);
     }
-    if e.kind == DETACH {
+    if e.kind == Kind::Detach as u64 {
         let a = slot_calls::detach(
             s, slots, words, records, cache, memory, &none, process, slot,
         );
         return kept(a, tag);
     }
-    if e.kind == TAG {
-        return tag_calls::tag(s, slots, words, records, cache, memory, tag, e.first);
+    if e.kind == Kind::Tag as u64 {
+        return tag_calls::tag(s, slots, words, records, cache, memory, tag, e.fields[0]);
     }
     tag_calls::drop_tag(s, slots, words, records, cache, memory, tag)
 }
@@ -145,25 +151,50 @@ fn change_pages(
     e: Entry,
 ) -> Answer {
     let none: [[[u8; 4]; 4]; 0] = [];
-    if e.kind == MAP {
-        let frame = e.second as usize;
-        let write = e.third != 0;
+    if e.kind == Kind::Map as u64 {
+        let frame = e.fields[1] as usize;
+        let write = e.fields[2] != 0;
         return map_call::map(
-            s, slots, words, records, cache, memory, &none, e.first, frame, write,
+            s,
+            slots,
+            words,
+            records,
+            cache,
+            memory,
+            &none,
+            e.fields[0],
+            frame,
+            write,
         );
     }
-    if e.kind == UNMAP {
-        return page_calls::unmap(s, slots, words, records, cache, memory, &none, e.first);
+    if e.kind == Kind::Unmap as u64 {
+        return page_calls::unmap(s, slots, words, records, cache, memory, &none, e.fields[0]);
     }
-    if e.kind == PROTECT {
-        let write = e.second != 0;
+    if e.kind == Kind::Protect as u64 {
+        let write = e.fields[1] != 0;
         return page_calls::protect(
-            s, slots, words, records, cache, memory, &none, e.first, write,
+            s,
+            slots,
+            words,
+            records,
+            cache,
+            memory,
+            &none,
+            e.fields[0],
+            write,
         );
     }
-    if e.kind == MOVE {
+    if e.kind == Kind::Move as u64 {
         return move_call::move_page(
-            s, slots, words, records, cache, memory, &none, e.first, e.second,
+            s,
+            slots,
+            words,
+            records,
+            cache,
+            memory,
+            &none,
+            e.fields[0],
+            e.fields[1],
         );
     }
     line_calls::flush_all(s, slots, words, records, cache, memory, &none)
@@ -181,24 +212,24 @@ fn use_line(
     e: Entry,
 ) -> Tagged {
     let mut none: [[[u8; 4]; 4]; 0] = [];
-    if e.kind == USER_ACCESS {
-        let process = e.first as usize;
-        let a = access(e.second, e.third, e.fifth);
-        let address = Effective(narrow(e.fourth));
+    if e.kind == Kind::UserAccess as u64 {
+        let process = e.fields[0] as usize;
+        let a = access(e.fields[1], e.fields[2], e.fields[4]);
+        let address = Effective(narrow(e.fields[3]));
         let r = user_access::user_access(
             s, slots, words, records, cache, memory, &mut none, tag, process, a, address,
         );
         return kept(r, tag);
     }
-    if e.kind == SUPERVISOR_ACCESS {
-        let a = access(e.first, e.second, e.fourth);
-        let address = Global(e.third);
+    if e.kind == Kind::SupervisorAccess as u64 {
+        let a = access(e.fields[0], e.fields[1], e.fields[3]);
+        let address = Global(e.fields[2]);
         let r = supervisor_access::supervisor_access(
             s, slots, words, records, cache, memory, &mut none, tag, a, address,
         );
         return kept(r, tag);
     }
-    let line = e.first as usize;
+    let line = e.fields[0] as usize;
     load_call::load_and_map(s, slots, words, records, cache, memory, tag, line)
 }
 
@@ -213,12 +244,11 @@ fn call(
     tag: Pending,
     e: Entry,
 ) -> Tagged {
-    let kind = e.kind;
-    match kind {
-        ATTACH | DETACH | TAG | DROP_TAG => {
+    match Kind::try_from(e.kind) {
+        Ok(Kind::Attach | Kind::Detach | Kind::Tag | Kind::DropTag) => {
             change_slot_or_tag(s, slots, words, records, cache, memory, tag, e)
         }
-        MAP | UNMAP | PROTECT | FLUSH_ALL | MOVE => {
+        Ok(Kind::Map | Kind::Unmap | Kind::Protect | Kind::FlushAll | Kind::Move) => {
             let a = change_pages(s, slots, words, records, cache, memory, e);
             kept(a, tag)
         }
@@ -290,10 +320,10 @@ fn board_of(e: Entry) -> Board
     ensures { Small result.shape }
 {
     let s = Shape {
-        frames: e.first as usize,
-        uncached: e.second as usize,
-        processes: e.third as usize,
-        lines: e.fourth as usize,
+        frames: e.fields[0] as usize,
+        uncached: e.fields[1] as usize,
+        processes: e.fields[2] as usize,
+        lines: e.fields[3] as usize,
         ways: 1,
     };
     if s.frames <= MOST_FRAMES {
@@ -347,7 +377,7 @@ fn play_entry(
     requires { Small b.shape }
     ensures { Small result.shape }
 {
-    if e.kind == HEADER {
+    if e.kind == Kind::Header as u64 {
         return board_of(e);
     }
     if b.large {
@@ -364,11 +394,13 @@ fn entry_at(entries: &[u64; ENTRIES], i: usize) -> Entry
     let at = ENTRY_WORDS * i;
     Entry {
         kind: entries[at],
-        first: entries[at + 1],
-        second: entries[at + 2],
-        third: entries[at + 3],
-        fourth: entries[at + 4],
-        fifth: entries[at + 5],
+        fields: [
+            entries[at + 1],
+            entries[at + 2],
+            entries[at + 3],
+            entries[at + 4],
+            entries[at + 5],
+        ],
     }
 }
 
@@ -408,7 +440,7 @@ fn read_piece(r: Reader, piece: &[u8], entries: &mut [u64; ENTRIES]) -> Input
         return Input {
             reader: next,
             given: x.given,
-            more: (piece.len() != 0) & (next.reason == NONE),
+            more: (piece.len() != 0) & next.reason.is_none(),
         };
     }
     Input {
@@ -462,22 +494,9 @@ fn read_on<R: Read>(
     read_piece(r, &piece[..n], entries)
 }
 
-fn say_reason(rt: &impl Eprint, reason: u64) {
-    let words = match reason {
-        PADDED => "a number's last group is 0 after others",
-        TENTH => "a number's tenth byte is above 1",
-        CUT => "the log is cut",
-        KIND => "a kind that is not known",
-        FIELD => "a field that is too large",
-        _ => "a board of more than 8 frames, 64 lines or 16 processes",
-    };
-    let _ = eprintln!(rt; "{words}");
-}
-
-// Where a log is refused, and why.
-fn say_refused(rt: &impl Eprint, place: u64, calls: u64, reason: u64) {
+// Where a log is refused; why comes behind it.
+fn say_refused(rt: &impl Eprint, place: u64, calls: u64) {
     let _ = eprint!(rt; "replay: log refused at byte {place}, after {calls} calls: ");
-    say_reason(rt, reason);
 }
 
 // Says at the end whether the log is refused.
@@ -485,12 +504,13 @@ fn judge(rt: &impl Eprint, r: Reader, b: Board)
     requires { Readable r }
 {
     if b.large {
-        say_refused(rt, 0, 0, LARGE);
+        say_refused(rt, 0, 0);
+        let _ = eprintln!(rt; "{LARGE}");
         return;
     }
-    let reason = log_reader::reason_of(r, true);
-    if reason != NONE {
-        say_refused(rt, log_reader::place_of(r), b.calls, reason);
+    if let Some(reason) = log_reader::reason_of(r, true) {
+        say_refused(rt, log_reader::place_of(r), b.calls);
+        let _ = eprintln!(rt; "{reason}");
     }
 }
 
@@ -503,7 +523,7 @@ fn replay<R: Read>(rt: &(impl Print + Eprint), input: &mut R, name: &str) {
     let mut cache: [u8; CACHE] = [0; CACHE];
     let mut memory: [u8; MEMORY] = [0; MEMORY];
     let mut entries: [u64; ENTRIES] = [0; ENTRIES];
-    let mut b = board_of(log_entries::of_kind(HEADER));
+    let mut b = board_of(log_entries::of_kind(Kind::Header as u64));
     let mut x = Input {
         reader: log_reader::fresh_reader(),
         given: 0,

@@ -1,16 +1,30 @@
--- `enter_kind`: a kind is known or not, and has fields or none.
-use mathlib.Core.Path.{◌∙◌, sym}
-use native.Mathlib.Omega.{arith}
-use Rattle.log_entries.proofs.Entries.{kind-fields, kind-unknown, kind-whole, kind-growing}
+-- `enter_kind`: a kind that isn't known, or the header's; else one with fields, or without.
+use Rattle.std.proofs.Common.{◌∙◌, sym, ap, arith, refl, length, eqb-true}
+use Rattle.std.proofs.lemmas.Bool.{eqb-false}
+use Rattle.std.proofs.lemmas.Result.{err_from_is_err_and}
+use Rattle.log_entries.specs.Enters.{number_of}
+use Rattle.log_entries.proofs.Entries.{kind-fields, fields-many, kind-known, kind-past, kind-header, kind-whole, kind-growing}
 use Rattle.log_entries.proofs.enter_kind.Goals as goal
 
-pub returns-then-fields_of-eq0 : goal.returns-then-fields_of-eq0
-returns-then-fields_of-eq0 c = let n = c.fields_of.ensures in
-    (kind-whole _ c.if-n.true _ c.of_kind-e.ensures _ n c.if-fields_of-eq0.true, sym c.if-fields_of-eq0.true ∙ n ∙ kind-fields _ _ c.of_kind-e.ensures)
+pub returns-in_err-kind : goal.returns-in_err-kind
+returns-in_err-kind c = let p = err_from_is_err_and c.from_residual.result c.from_residual.ensures.1 in
+    rw (p.1, p.2, c.in_err-kind.ensures.0) (kind-past c.args.n c.in_err-kind.ensures.1, tt {0})
 
-pub returns-then-n : goal.returns-then-n
-returns-then-n c = let n = c.fields_of.ensures in
-    (kind-growing _ c.if-n.true _ c.of_kind-e.ensures _ n c.if-fields_of-eq0.false, omega (arith, c.if-fields_of-eq0.false, n, kind-fields _ _ c.of_kind-e.ensures))
+pub returns-in-Header : goal.returns-in-Header
+returns-in-Header c = (kind-header c.args.n (ap number_of (sym c.in-Header.is) ∙ c.in_ok-kind.ensures), tt {0})
 
-pub returns : goal.returns
-returns c = (kind-unknown _ c.if-n.false, tt)
+pub returns-then-is_empty : goal.returns-then-is_empty
+returns-then-is_empty c = let n = c.args.n in
+    let many = fields-many n c.in_ok-kind.kind c.fields.result.now c.in_ok-kind.ensures c.fields.ensures in
+    let z = eqb-true _ _ (sym c.if-is_empty.ensures) in (
+      kind-whole n (kind-known n c.in_ok-kind.kind c.in_default.not-Header c.in_ok-kind.ensures) _ c.of_kind-e.ensures _ many z,
+      sym z ∙ many ∙ kind-fields n c.of_kind-e.result c.of_kind-e.ensures,
+    )
+
+pub returns-else-is_empty : goal.returns-else-is_empty
+returns-else-is_empty c = let n = c.args.n in
+    let many = fields-many n c.in_ok-kind.kind c.fields.result.now c.in_ok-kind.ensures c.fields.ensures in
+    let z = eqb-false _ _ (sym c.if-is_empty.ensures) in (
+      kind-growing n (kind-known n c.in_ok-kind.kind c.in_default.not-Header c.in_ok-kind.ensures) _ c.of_kind-e.ensures _ many z,
+      omega (arith, z, many, kind-fields n c.of_kind-e.result c.of_kind-e.ensures),
+    )

@@ -4,4 +4,5 @@ use Rattle.log_reader.proofs.Laid.{fresh-is, fresh-fields}
 use Rattle.log_reader.proofs.fresh_reader.Goals as goal
 
 pub returns : goal.returns
-returns c = (fresh-is _ c.of_kind.ensures, record { few = omega arith; within = omega arith; small = omega arith; fields = fresh-fields _ c.of_kind.ensures })
+returns c = let e = c.of_kind.result in let w = c.of_kind.ensures in
+    (fresh-is e w, record { few = omega arith; within = omega arith; small = omega arith; fields = fresh-fields e w })

@@ -1,10 +1,10 @@
--- `put_entry` puts the fields that the kind has, and 0 for others.
-use mathlib.Core.Path.{◌∙◌, ap}
-use Rattle.board.specs.Lists.{splice}
-use Rattle.log_reader.proofs.Laid.{six-shown}
+-- `put_entry`: no kind has more than five fields.
+use native.Mathlib.Omega.{arith}
+use Rattle.log_entries.proofs.Tables.{fields-few}
 use Rattle.log_reader.proofs.put_entry.Goals as goal
 
-pub returns : goal.returns
-returns c = c.put_six.ensures
-    ∙ ap (splice _ _) (six-shown c.args.e _ _ _ _ _ _ c.fields_of-n.ensures c.shown-first.ensures c.shown-second.ensures
-    c.shown-third.ensures c.shown-fourth.ensures c.shown-fifth.ensures)
+pub overflow_add-fields_of : goal.overflow_add-fields_of
+overflow_add-fields_of c = omega (arith, fields-few c.args.e.kind, c.fields_of.ensures)
+
+pub first_words-words-requires : goal.first_words-words-requires
+first_words-words-requires c = omega (arith, fields-few c.args.e.kind, c.fields_of.ensures)

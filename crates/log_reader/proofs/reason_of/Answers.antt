@@ -1,13 +1,12 @@
 -- `reason_of`: refused already, or cut, or neither.
-use borrow.Author.Rules.{rules}
 use Rattle.log_reader.proofs.Laid.{reason-refused, reason-cut, reason-none}
 use Rattle.log_reader.proofs.reason_of.Goals as goal
 
-pub returns-then-r-ne-NONE : goal.returns-then-r-ne-NONE
-returns-then-r-ne-NONE c = reason-refused c.args.r c.args.ended c.if-r-ne-NONE.true
+pub returns-in-Some : goal.returns-in-Some
+returns-in-Some c = reason-refused c.args.r c.args.ended _ c.in-Some.is
 
-pub returns-then-ended-is_between : goal.returns-then-ended-is_between
-returns-then-ended-is_between c = let a = c.args in reason-cut a.r a.ended _ c.is_between.ensures (search rules) c.if-ended-is_between.true
+pub returns-in-None : goal.returns-in-None
+returns-in-None c = reason-cut c.args.r c.args.ended _ c.is_between.ensures c.in-None.is c.if-ended-is_between.true
 
-pub returns : goal.returns
-returns c = let a = c.args in reason-none a.r a.ended _ c.is_between.ensures (search rules) c.if-ended-is_between.false
+pub returns-in-None-2 : goal.returns-in-None-2
+returns-in-None-2 c = reason-none c.args.r c.args.ended _ c.is_between.ensures c.in-None.is c.if-ended-is_between.false
