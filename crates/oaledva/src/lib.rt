@@ -37,6 +37,7 @@ pub extern "C" fn oaledva_supervisor_access(
 ) -> u64
     ensures { SupervisorAccess (one_line frames uncached processes lines) (board slots.now words.now records.old cache.old memory.old (tag_of set name)) (access store width value) (global address) (unpacked result) (board slots.now words.now records.new cache.new memory.new (tag_of set name)) }
 {
+    let mut none: [[[u8; 4]; 4]; 0] = [];
     let s = Shape::one_line(frames, uncached, processes, lines);
     let tag = crossing::tag_of(set, name);
     let a = crossing::access(store, width, value);
@@ -47,7 +48,7 @@ pub extern "C" fn oaledva_supervisor_access(
         records,
         cache,
         memory,
-        &mut [],
+        &mut none,
         tag,
         a,
         Global(address),
@@ -289,9 +290,10 @@ pub extern "C" fn oaledva_load_and_map(
 ) -> u64
     ensures { Meets (LoadAndMap (one_line frames uncached processes lines) (board slots.now words.now records.old cache.old memory.old (tag_of set.old name.old)) line) set.old (returned result slots.now words.now records.new cache.new memory.new set.new name.new) }
 {
+    let mut none: [[[u8; 4]; 4]; 0] = [];
     let s = Shape::one_line(frames, uncached, processes, lines);
     let mut tag = crossing::tag_of(*set, *name);
-    let r = load_call::load_and_map(s, slots, words, records, cache, memory, &mut [], &mut tag, line);
+    let r = load_call::load_and_map(s, slots, words, records, cache, memory, &mut none, &mut tag, line);
     crossing::put_tag(tag, set, name);
     crossing::packed_call(r)
 }

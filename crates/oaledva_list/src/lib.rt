@@ -29,10 +29,11 @@ pub extern "C" fn oaledva_user_accesses(
 ) -> u64
     ensures { UserAccesses (one_line frames uncached processes lines) (board slots.now words.now records.old cache.old memory.old (tag_of set name)) accesses.now (unpacked_all answers.old) (unpacked result) (answered (unpacked_all answers.new) (board slots.now words.now records.new cache.new memory.new (tag_of set name))) }
 {
+    let mut none: [[[u8; 4]; 4]; 0] = [];
     let s = Shape::one_line(frames, uncached, processes, lines);
     let tag = crossing::tag_of(set, name);
     let r = user_lists::user_accesses(
-        s, slots, words, records, cache, memory, &mut [], tag, accesses, answers,
+        s, slots, words, records, cache, memory, &mut none, tag, accesses, answers,
     );
     crossing::packed_call(r)
 }

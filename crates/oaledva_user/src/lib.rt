@@ -33,6 +33,7 @@ pub extern "C" fn oaledva_user_access(
 ) -> u64
     ensures { UserAccess (one_line frames uncached processes lines) (board slots.now words.now records.old cache.old memory.old (tag_of set name)) process (access store width value) (effective address) (unpacked result) (board slots.now words.now records.new cache.new memory.new (tag_of set name)) }
 {
+    let mut none: [[[u8; 4]; 4]; 0] = [];
     let s = Shape::one_line(frames, uncached, processes, lines);
     let tag = crossing::tag_of(set, name);
     let a = crossing::access(store, width, value);
@@ -43,7 +44,7 @@ pub extern "C" fn oaledva_user_access(
         records,
         cache,
         memory,
-        &mut [],
+        &mut none,
         tag,
         process,
         a,

@@ -2,22 +2,22 @@
 // standard output, and to standard error why a log is refused.
 #![tactic(auto)]
 
-ghost use Rattle.std.specs.Prelude.{◌<◌, ◌≤◌, length};
+ghost use Rattle.std.specs.Prelude.{◌≤◌, length};
 ghost use Rattle.log_reader.specs.Readers.{Readable};
-ghost use Rattle.replay.specs.Sizes.{Small, Largest, piece_bytes};
+ghost use Rattle.replay.specs.Sizes.{Small};
 
 use address::{Effective, Global};
 use board::{Answer, LINE_BYTES, PAGE_BYTES, PROCESS_SLOTS, Pending, RECORD_WORDS, Shape};
-use log_entries::{ENTRY_WORDS, Entry, Kind, WORD_MOST};
+use log_entries::{ENTRY_WORDS, Entry, Kind, MOST_FIELDS, WORD_MOST};
 use log_reader::Reader;
 use std::env::FillError;
+use std::fmt;
 use std::fmt::InlineText;
 use std::fs::File;
 use std::io;
 use std::io::Read;
 use std::rt::{Env, Files};
 use stores::Access;
-use tag_calls::Tagged;
 
 // The largest board that it takes, and the lengths of that board's buffers.
 const MOST_FRAMES: usize = 8;
@@ -45,9 +45,6 @@ const MOST_BYTES: u64 = u64::MAX;
 // Widths, values and effective addresses are below this.
 const WORD_END: u64 = WORD_MOST + 1;
 
-// One more reason for which a log is refused: its board is too large for this program.
-const LARGE: &str = "a board of more than 8 frames, 64 lines or 16 processes";
-
 // Linux's number for a name that is too long: the log's is at most so many bytes.
 const NAME_TOO_LONG: i32 = 36;
 
@@ -67,13 +64,31 @@ struct Input {
     more: bool,
 }
 
-// The board so far: its numbers, its tag, and how many calls were made on it; or that the log's board is too large.
+// The buffers of the largest board, of which a board uses the front parts.
+struct Buffers {
+    slots: [u32; SLOTS],
+    words: [u64; MOST_FRAMES],
+    records: [u64; RECORDS],
+    cache: [u8; CACHE],
+    memory: [u8; MEMORY],
+}
+
+// The board so far: its numbers, its tag, and how many calls were made on it.
 #[derive(Clone, Copy)]
 struct Board {
     shape: Shape,
     tag: Pending,
     calls: u64,
-    large: bool,
+    ghost small: { Small shape },
+}
+
+// One more reason for which a log is refused.
+struct TooLarge;
+
+impl fmt::Display for TooLarge {
+    fn fmt<W: fmt::Write>(&self, f: &mut fmt::Formatter<W>) -> fmt::Result {
+        f.write_str("a board of more than 8 frames, 64 lines or 16 processes")
+    }
 }
 
 // A number that the reader lets through only below WORD_END.
@@ -89,151 +104,7 @@ fn access(store: u64, width: u64, value: u64) -> Access {
     }
 }
 
-// What a call gives that leaves the tag as it was.
-fn kept(a: Answer, tag: Pending) -> Tagged {
-    Tagged {
-        answer: a,
-        tag: tag,
-    }
-}
-
-// Attach, detach, tag and drop tag: no line is touched.
-fn change_slot_or_tag(
-    s: Shape,
-    slots: &mut [u32],
-    words: &[u64],
-    records: &[u64],
-    cache: &[u8],
-    memory: &[u8],
-    tag: Pending,
-    e: Entry,
-) -> Tagged {
-    let none: [[[u8; 4]; 4]; 0] = [];
-    let process = e.fields[0] as usize;
-    let slot = e.fields[1] as usize;
-    if e.kind == Kind::Attach as u64 {
-        let write = e.fields[3] != 0;
-        let a = slot_calls::attach(
-            s,
-            slots,
-            words,
-            records,
-            cache,
-            memory,
-            &none,
-            process,
-            slot,
-            e.fields[2],
-            write,
-        );
-        return kept(a, tag);
-    }
-    if e.kind == Kind::Detach as u64 {
-        let a = slot_calls::detach(
-            s, slots, words, records, cache, memory, &none, process, slot,
-        );
-        return kept(a, tag);
-    }
-    if e.kind == Kind::Tag as u64 {
-        return tag_calls::tag(s, slots, words, records, cache, memory, tag, e.fields[0]);
-    }
-    tag_calls::drop_tag(s, slots, words, records, cache, memory, tag)
-}
-
-// Map, unmap, protect, move and flush all: many lines are visited.
-fn change_pages(
-    s: Shape,
-    slots: &[u32],
-    words: &mut [u64],
-    records: &mut [u64],
-    cache: &[u8],
-    memory: &mut [u8],
-    e: Entry,
-) -> Answer {
-    let none: [[[u8; 4]; 4]; 0] = [];
-    if e.kind == Kind::Map as u64 {
-        let frame = e.fields[1] as usize;
-        let write = e.fields[2] != 0;
-        return map_call::map(
-            s,
-            slots,
-            words,
-            records,
-            cache,
-            memory,
-            &none,
-            e.fields[0],
-            frame,
-            write,
-        );
-    }
-    if e.kind == Kind::Unmap as u64 {
-        return page_calls::unmap(s, slots, words, records, cache, memory, &none, e.fields[0]);
-    }
-    if e.kind == Kind::Protect as u64 {
-        let write = e.fields[1] != 0;
-        return page_calls::protect(
-            s,
-            slots,
-            words,
-            records,
-            cache,
-            memory,
-            &none,
-            e.fields[0],
-            write,
-        );
-    }
-    if e.kind == Kind::Move as u64 {
-        return move_call::move_page(
-            s,
-            slots,
-            words,
-            records,
-            cache,
-            memory,
-            &none,
-            e.fields[0],
-            e.fields[1],
-        );
-    }
-    line_calls::flush_all(s, slots, words, records, cache, memory, &none)
-}
-
-// User access, supervisor access and load-and-map: one line is used.
-fn use_line(
-    s: Shape,
-    slots: &[u32],
-    words: &[u64],
-    records: &mut [u64],
-    cache: &mut [u8],
-    memory: &mut [u8],
-    tag: Pending,
-    e: Entry,
-) -> Tagged {
-    let mut none: [[[u8; 4]; 4]; 0] = [];
-    if e.kind == Kind::UserAccess as u64 {
-        let process = e.fields[0] as usize;
-        let a = access(e.fields[1], e.fields[2], e.fields[4]);
-        let address = Effective(narrow(e.fields[3]));
-        let r = user_access::user_access(
-            s, slots, words, records, cache, memory, &mut none, tag, process, a, address,
-        );
-        return kept(r, tag);
-    }
-    if e.kind == Kind::SupervisorAccess as u64 {
-        let a = access(e.fields[0], e.fields[1], e.fields[3]);
-        let address = Global(e.fields[2]);
-        let r = supervisor_access::supervisor_access(
-            s, slots, words, records, cache, memory, &mut none, tag, a, address,
-        );
-        return kept(r, tag);
-    }
-    let line = e.fields[0] as usize;
-    load_call::load_and_map(s, slots, words, records, cache, memory, tag, line)
-}
-
-// A call: its answer, and the tag after it.
+// A call by its kind and its fields.
 fn call(
     s: Shape,
     slots: &mut [u32],
@@ -241,192 +112,177 @@ fn call(
     records: &mut [u64],
     cache: &mut [u8],
     memory: &mut [u8],
-    tag: Pending,
-    e: Entry,
-) -> Tagged {
-    match Kind::try_from(e.kind) {
-        Ok(Kind::Attach | Kind::Detach | Kind::Tag | Kind::DropTag) => {
-            change_slot_or_tag(s, slots, words, records, cache, memory, tag, e)
+    tag: &mut Pending,
+    kind: Kind,
+    fields: [u64; MOST_FIELDS],
+) -> Answer {
+    let [first, second, third, fourth, fifth] = fields;
+    let done = match kind {
+        Kind::UserAccess => {
+            let a = access(second, third, fifth);
+            let address = Effective(narrow(fourth));
+            let process = first as usize;
+            return Answer::from(user_access::user_access(
+                s, slots, words, records, cache, memory, &mut [], *tag, process, a, address,
+            ));
         }
-        Ok(Kind::Map | Kind::Unmap | Kind::Protect | Kind::FlushAll | Kind::Move) => {
-            let a = change_pages(s, slots, words, records, cache, memory, e);
-            kept(a, tag)
+        Kind::SupervisorAccess => {
+            let a = access(first, second, fourth);
+            let address = Global(third);
+            return Answer::from(supervisor_access::supervisor_access(
+                s, slots, words, records, cache, memory, &mut [], *tag, a, address,
+            ));
         }
-        _ => use_line(s, slots, words, records, cache, memory, tag, e),
-    }
-}
-
-// A call on the front parts of the buffers, as long as the board's numbers say.
-fn call_on_parts(
-    s: Shape,
-    slots: &mut [u32],
-    words: &mut [u64],
-    records: &mut [u64],
-    cache: &mut [u8],
-    memory: &mut [u8],
-    tag: Pending,
-    e: Entry,
-) -> Tagged
-    requires { Small s × Largest (length slots.old) (length words.old) (length records.old) (length cache.old) (length memory.old) }
-{
-    let process_slots = PROCESS_SLOTS * s.processes;
-    let frames = s.frames;
-    let line_records = RECORD_WORDS * s.lines;
-    let line_bytes = LINE_BYTES * s.lines;
-    let page_bytes = PAGE_BYTES * s.frames;
-    call(
-        s,
-        &mut slots[..process_slots],
-        &mut words[..frames],
-        &mut records[..line_records],
-        &mut cache[..line_bytes],
-        &mut memory[..page_bytes],
-        tag,
-        e,
-    )
-}
-
-// What can't be written is passed over: the calls go on, and it is still said whether the log is refused.
-fn write_field(rt: &impl Print, x: u64, end: &str) {
-    let _ = print!(rt; "{x}{end}");
-}
-
-// A row of the table.
-fn write_row(rt: &impl Print, call: u64, a: Answer) {
-    write_field(rt, call, " ");
-    write_field(rt, a.number as u64, " ");
-    write_field(rt, a.value as u64, " ");
-    write_field(rt, a.mark as u64, "\n");
-}
-
-// A board before any call.
-fn fresh_board(s: Shape, large: bool) -> Board
-    requires { Small s }
-    ensures { Small result.shape }
-{
-    Board {
-        shape: s,
-        tag: Pending {
-            set: false,
-            name: 0,
-        },
-        calls: 0,
-        large: large,
-    }
-}
-
-// The board of a header, if it isn't too large.
-fn board_of(e: Entry) -> Board
-    ensures { Small result.shape }
-{
-    let s = Shape {
-        frames: e.fields[0] as usize,
-        uncached: e.fields[1] as usize,
-        processes: e.fields[2] as usize,
-        lines: e.fields[3] as usize,
-        ways: 1,
+        Kind::Attach => {
+            let process = first as usize;
+            let slot = second as usize;
+            let write = fourth != 0;
+            slot_calls::attach(
+                s, slots, words, records, cache, memory, &[], process, slot, third, write,
+            )
+        }
+        Kind::Detach => {
+            let process = first as usize;
+            let slot = second as usize;
+            slot_calls::detach(s, slots, words, records, cache, memory, &[], process, slot)
+        }
+        Kind::Map => {
+            let frame = second as usize;
+            let write = third != 0;
+            map_call::map(
+                s, slots, words, records, cache, memory, &[], first, frame, write,
+            )
+        }
+        Kind::Unmap => page_calls::unmap(s, slots, words, records, cache, memory, &[], first),
+        Kind::Protect => {
+            let write = second != 0;
+            page_calls::protect(s, slots, words, records, cache, memory, &[], first, write)
+        }
+        Kind::Move => {
+            move_call::move_page(s, slots, words, records, cache, memory, &[], first, second)
+        }
+        Kind::FlushAll => line_calls::flush_all(s, slots, words, records, cache, memory, &[]),
+        Kind::Tag => tag_calls::tag(s, slots, words, records, cache, memory, &[], tag, first),
+        Kind::LoadAndMap => {
+            let line = first as usize;
+            load_call::load_and_map(
+                s, slots, words, records, cache, memory, &mut [], tag, line,
+            )
+        }
+        Kind::DropTag => tag_calls::drop_tag(s, slots, words, records, cache, memory, &[], tag),
+        // the header makes the board, and is no call
+        Kind::Header => Ok(()),
     };
-    if s.frames <= MOST_FRAMES {
-        if s.lines <= MOST_LINES {
-            if s.processes <= MOST_PROCESSES {
-                return fresh_board(s, false);
+    Answer::from(done)
+}
+
+impl Buffers {
+    fn zeros() -> Buffers {
+        Buffers {
+            slots: [0; SLOTS],
+            words: [0; MOST_FRAMES],
+            records: [0; RECORDS],
+            cache: [0; CACHE],
+            memory: [0; MEMORY],
+        }
+    }
+
+    // A call on the front parts of the buffers, as long as the board's numbers say.
+    fn call(
+        &mut self,
+        s: Shape,
+        tag: &mut Pending,
+        kind: Kind,
+        fields: [u64; MOST_FIELDS],
+    ) -> Answer
+        requires { Small s }
+    {
+        call(
+            s,
+            &mut self.slots[..PROCESS_SLOTS * s.processes],
+            &mut self.words[..s.frames],
+            &mut self.records[..RECORD_WORDS * s.lines],
+            &mut self.cache[..LINE_BYTES * s.lines],
+            &mut self.memory[..PAGE_BYTES * s.frames],
+            tag,
+            kind,
+            fields,
+        )
+    }
+}
+
+impl Board {
+    // The board of a header's fields, if it isn't too large.
+    fn of_header(fields: [u64; MOST_FIELDS]) -> Result<Board, TooLarge> {
+        let [frames, uncached, processes, lines, _] = fields;
+        let shape = Shape::one_line(
+            frames as usize,
+            uncached as usize,
+            processes as usize,
+            lines as usize,
+        );
+        if shape.frames <= MOST_FRAMES && shape.lines <= MOST_LINES {
+            if shape.processes <= MOST_PROCESSES {
+                return Ok(Board {
+                    shape,
+                    tag: Pending::none(),
+                    calls: 0,
+                });
             }
         }
+        Err(TooLarge)
     }
-    fresh_board(
-        Shape {
-            frames: 0,
-            uncached: 0,
-            processes: 0,
-            lines: 0,
-            ways: 1,
-        },
-        true,
-    )
-}
 
-// The board after a call, whose row is written. No log has 2^64 calls.
-fn after_call(rt: &impl Print, b: Board, t: Tagged) -> Board
-    requires { Small b.shape }
-    ensures { Small result.shape }
-{
-    let s = b.shape;
-    let a = t.answer;
-    let tag = t.tag;
-    let calls = std::num::wrapping_add_u64(b.calls, 1);
-    write_row(rt, calls, a);
-    Board {
-        shape: s,
-        tag: tag,
-        calls: calls,
-        large: false,
+    // The board after a call, whose row is written. No log has 2^64 calls. What can't be written is passed over: the calls go on, and it
+    // is still said whether the log is refused.
+    fn after_call(
+        self,
+        rt: &impl Print,
+        buffers: &mut Buffers,
+        kind: Kind,
+        fields: [u64; MOST_FIELDS],
+    ) -> Board {
+        let mut tag = self.tag;
+        let calls = self.calls.wrapping_add(1);
+        let a = buffers.call(self.shape, &mut tag, kind, fields);
+        let _ = println!(rt; "{calls} {a}");
+        Board {
+            shape: self.shape,
+            tag,
+            calls,
+        }
     }
-}
 
-// An entry: the header, or a call. On a board that is too large nothing is done.
-fn play_entry(
-    rt: &impl Print,
-    b: Board,
-    slots: &mut [u32; SLOTS],
-    words: &mut [u64; MOST_FRAMES],
-    records: &mut [u64; RECORDS],
-    cache: &mut [u8; CACHE],
-    memory: &mut [u8; MEMORY],
-    e: Entry,
-) -> Board
-    requires { Small b.shape }
-    ensures { Small result.shape }
-{
-    if e.kind == Kind::Header as u64 {
-        return board_of(e);
-    }
-    if b.large {
-        return b;
-    }
-    let t = call_on_parts(b.shape, slots, words, records, cache, memory, b.tag, e);
-    after_call(rt, b, t)
-}
-
-// An entry of a list.
-fn entry_at(entries: &[u64; ENTRIES], i: usize) -> Entry
-    requires { i < piece_bytes }
-{
-    let at = ENTRY_WORDS * i;
-    Entry {
-        kind: entries[at],
-        fields: [
-            entries[at + 1],
-            entries[at + 2],
-            entries[at + 3],
-            entries[at + 4],
-            entries[at + 5],
-        ],
+    // The board after an entry: the header's, or this one after a call. The reader gives no entry of another kind.
+    fn after(
+        self,
+        rt: &impl Print,
+        buffers: &mut Buffers,
+        e: Entry,
+    ) -> Result<Board, TooLarge> {
+        match Kind::try_from(e.kind) {
+            Ok(Kind::Header) => Board::of_header(e.fields),
+            Ok(kind) => Ok(self.after_call(rt, buffers, kind, e.fields)),
+            Err(_) => Ok(self),
+        }
     }
 }
 
-// The entries of a piece.
+// The board after the entries of a piece.
 fn play_entries(
     rt: &impl Print,
-    b: Board,
-    slots: &mut [u32; SLOTS],
-    words: &mut [u64; MOST_FRAMES],
-    records: &mut [u64; RECORDS],
-    cache: &mut [u8; CACHE],
-    memory: &mut [u8; MEMORY],
+    board: Board,
+    buffers: &mut Buffers,
     entries: &[u64; ENTRIES],
     given: usize,
-) -> Board
-    requires { Small b.shape }
-    ensures { Small result.shape }
-{
-    let mut after = b;
-    let mut i: usize = 0;
-    while i < given && i < PIECE {
-        let e = entry_at(entries, i);
-        after = play_entry(rt, after, slots, words, records, cache, memory, e);
-        i += 1;
+) -> Result<Board, TooLarge> {
+    let mut after = board;
+    for i in 0..given.min(PIECE) {
+        let at = ENTRY_WORDS * i;
+        let e = Entry::of_words(&entries[at..at + ENTRY_WORDS]);
+        after = after.after(rt, buffers, e)?;
     }
-    after
+    Ok(after)
 }
 
 // Reads a piece of the log. An empty one says that the log has ended (and so does one past the last byte that a log can have).
@@ -436,11 +292,10 @@ fn read_piece(r: Reader, piece: &[u8], entries: &mut [u64; ENTRIES]) -> Input
 {
     if piece.len() as u64 <= MOST_BYTES - r.at {
         let x = log_reader::read(r, piece, entries);
-        let next = x.reader;
         return Input {
-            reader: next,
+            reader: x.reader,
             given: x.given,
-            more: (piece.len() != 0) & next.reason.is_none(),
+            more: !piece.is_empty() && x.reader.reason.is_none(),
         };
     }
     Input {
@@ -494,65 +349,55 @@ fn read_on<R: Read>(
     read_piece(r, &piece[..n], entries)
 }
 
-// Where a log is refused; why comes behind it.
-fn say_refused(rt: &impl Eprint, place: u64, calls: u64) {
-    let _ = eprint!(rt; "replay: log refused at byte {place}, after {calls} calls: ");
+// Where a log is refused, and why.
+fn say_refused(rt: &impl Eprint, place: u64, calls: u64, why: impl fmt::Display) {
+    let _ = eprintln!(rt; "replay: log refused at byte {place}, after {calls} calls: {why}");
 }
 
 // Says at the end whether the log is refused.
-fn judge(rt: &impl Eprint, r: Reader, b: Board)
+fn judge(rt: &impl Eprint, r: Reader, calls: u64)
     requires { Readable r }
 {
-    if b.large {
-        say_refused(rt, 0, 0);
-        let _ = eprintln!(rt; "{LARGE}");
-        return;
-    }
     if let Some(reason) = log_reader::reason_of(r, true) {
-        say_refused(rt, log_reader::place_of(r), b.calls);
-        let _ = eprintln!(rt; "{reason}");
+        say_refused(rt, log_reader::place_of(r), calls, reason);
     }
 }
 
-// Replays a log to its end, on zeros. Nothing says that an input ends, so the loop counts its turns down, from a number that no run
-// uses up.
-fn replay<R: Read>(rt: &(impl Print + Eprint), input: &mut R, name: &str) {
-    let mut slots: [u32; SLOTS] = [0; SLOTS];
-    let mut words: [u64; MOST_FRAMES] = [0; MOST_FRAMES];
-    let mut records: [u64; RECORDS] = [0; RECORDS];
-    let mut cache: [u8; CACHE] = [0; CACHE];
-    let mut memory: [u8; MEMORY] = [0; MEMORY];
+// Replays a log to its end, or until its board is too large. Nothing says that an input ends, so the turns are counted, to a number that
+// no run uses up.
+fn replay<R: Read>(
+    rt: &(impl Print + Eprint),
+    input: &mut R,
+    name: &str,
+) -> Result<(), TooLarge> {
+    let mut buffers = Buffers::zeros();
     let mut entries: [u64; ENTRIES] = [0; ENTRIES];
-    let mut b = board_of(log_entries::of_kind(Kind::Header as u64));
-    let mut x = Input {
-        reader: log_reader::fresh_reader(),
-        given: 0,
-        more: true,
-    };
-    let mut turns = u64::MAX;
+    let mut board = Board::of_header([0; MOST_FIELDS])?;
+    let mut reader = log_reader::fresh_reader();
     let _ = println!(rt; "call answer value mark");
-    while turns > 0 && (x.more & !b.large) {
-        x = read_on(rt, input, name, x.reader, &mut entries);
-        b = play_entries(
-            rt,
-            b,
-            &mut slots,
-            &mut words,
-            &mut records,
-            &mut cache,
-            &mut memory,
-            &entries,
-            x.given,
-        );
-        turns -= 1;
+    for _ in 0..u64::MAX {
+        let x = read_on(rt, input, name, reader, &mut entries);
+        reader = x.reader;
+        board = play_entries(rt, board, &mut buffers, &entries, x.given)?;
+        if !x.more {
+            break;
+        }
     }
-    judge(rt, x.reader, b);
+    judge(rt, reader, board.calls);
+    Ok(())
+}
+
+// Replays an input, and says if its board is too large.
+fn replay_input<R: Read>(rt: &(impl Print + Eprint), input: &mut R, name: &str) {
+    if let Err(why) = replay(rt, input, name) {
+        say_refused(rt, 0, 0, why);
+    }
 }
 
 // Replays a file.
 fn replay_file(rt: &(impl Files + Print + Eprint), name: &str) {
     match File::open(rt, name) {
-        Ok(mut file) => replay(rt, &mut file, name),
+        Ok(mut file) => replay_input(rt, &mut file, name),
         Err(error) => say_failed(rt, name, error),
     }
 }
@@ -572,7 +417,7 @@ fn has_argument(rt: &impl Env, i: usize) -> bool {
 
 fn main(rt: HostRuntime) {
     if !has_argument(&rt, 1) {
-        replay(&rt, &mut rt.stdin(), "standard input");
+        replay_input(&rt, &mut rt.stdin(), "standard input");
         return;
     }
     if has_argument(&rt, 2) {
