@@ -68,6 +68,13 @@ module _ (a : Answer) (slots w r c m : List ℕ) (u : Uses) (tag : Pending) (n :
       → listed (unpacked n) (answered answers (board slots w r c m tag)) ≡ o
   crosses-list-bare answers o e = rw (f, ← no-uses u z) e
 
+-- both
+pub crosses-tagged-bare : (a : Answer) (slots w r c m : List ℕ) (u : Uses) (tag : Pending) (o : Outcome) (n set name : ℕ) → length u ≡ 0
+    → outcome a (sets_board slots w r c m u tag) ≡ o → unpacked n ≡ a → not (eqb set 0) ≡ tag.set → name ≡ tag.name
+    → outcome (unpacked n) (board slots w r c m (tag_of set name)) ≡ o
+crosses-tagged-bare a slots w r c m u tag o n set name z e f g h =
+    crosses-bare (unpacked n) slots w r c m u (tag_of set name) n z refl o (crosses-tagged a slots w r c m u tag o n set name e f g h)
+
 -- the returns of word_after
 pub word-given : (before : ℕ) (set : Bool) → set ≡ true → (before ≡ 0 → ⊥) → before ≡ word_after before set
 unfolding word_after

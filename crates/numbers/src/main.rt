@@ -79,7 +79,13 @@ fn with_lines(rt: &impl Print, lines: usize, records: &[u64], cache: &[u8]) -> i
     let r = RECORD_WORDS * lines;
     let c = LINE_BYTES * lines;
     if r <= records.len() && c <= cache.len() {
-        let a = attached(1, lines, &mut [0; PROCESS_SLOTS], &records[..r], &cache[..c]);
+        let a = attached(
+            1,
+            lines,
+            &mut [0; PROCESS_SLOTS],
+            &records[..r],
+            &cache[..c],
+        );
         println!(rt; "L = {lines}: {}", a.number)?;
     }
     Ok(())
@@ -91,7 +97,13 @@ fn with_processes(rt: &impl Print, processes: usize, slots: &mut [u32]) -> io::R
 {
     let n = PROCESS_SLOTS * processes;
     if n <= slots.len() {
-        let a = attached(processes, 1, &mut slots[..n], &[0; RECORD_WORDS], &[0; LINE_BYTES]);
+        let a = attached(
+            processes,
+            1,
+            &mut slots[..n],
+            &[0; RECORD_WORDS],
+            &[0; LINE_BYTES],
+        );
         println!(rt; "P = {processes}: {}", a.number)?;
     }
     Ok(())

@@ -110,9 +110,7 @@ pub extern "C" fn oaledva_detach(
     ensures { (tag : Pending) → Detach (one_line frames uncached processes lines) (board slots.old words.now records.now cache.now memory.now tag) process slot (unpacked result) (board slots.new words.now records.now cache.now memory.now tag) }
 {
     let s = Shape::one_line(frames, uncached, processes, lines);
-    let r = slot_calls::detach(
-        s, slots, words, records, cache, memory, &[], process, slot,
-    );
+    let r = slot_calls::detach(s, slots, words, records, cache, memory, &[], process, slot);
     crossing::packed_call(r)
 }
 
@@ -221,9 +219,7 @@ pub extern "C" fn oaledva_move(
     ensures { (tag : Pending) → Move (one_line frames uncached processes lines) (board slots.now words.old records.old cache.now memory.old tag) page new_page (unpacked result) (board slots.now words.new records.new cache.now memory.new tag) }
 {
     let s = Shape::one_line(frames, uncached, processes, lines);
-    let r = move_call::move_page(
-        s, slots, words, records, cache, memory, &[], page, new_page,
-    );
+    let r = move_call::move_page(s, slots, words, records, cache, memory, &[], page, new_page);
     crossing::packed_call(r)
 }
 
@@ -293,7 +289,9 @@ pub extern "C" fn oaledva_load_and_map(
     let mut none: [[[u8; 4]; 4]; 0] = [];
     let s = Shape::one_line(frames, uncached, processes, lines);
     let mut tag = crossing::tag_of(*set, *name);
-    let r = load_call::load_and_map(s, slots, words, records, cache, memory, &mut none, &mut tag, line);
+    let r = load_call::load_and_map(
+        s, slots, words, records, cache, memory, &mut none, &mut tag, line,
+    );
     crossing::put_tag(tag, set, name);
     crossing::packed_call(r)
 }

@@ -272,7 +272,9 @@ pub extern "C" fn oaledva_sets_tag(
 {
     let s = Shape::four_lines(frames, uncached, processes, lines);
     let mut tag = crossing::tag_of(*set, *name);
-    let r = tag_calls::tag(s, slots, words, records, cache, memory, uses, &mut tag, line);
+    let r = tag_calls::tag(
+        s, slots, words, records, cache, memory, uses, &mut tag, line,
+    );
     crossing::put_tag(tag, set, name);
     crossing::packed_call(r)
 }
@@ -298,7 +300,9 @@ pub extern "C" fn oaledva_sets_load_and_map(
 {
     let s = Shape::four_lines(frames, uncached, processes, lines);
     let mut tag = crossing::tag_of(*set, *name);
-    let r = load_call::load_and_map(s, slots, words, records, cache, memory, uses, &mut tag, line);
+    let r = load_call::load_and_map(
+        s, slots, words, records, cache, memory, uses, &mut tag, line,
+    );
     crossing::put_tag(tag, set, name);
     crossing::packed_call(r)
 }

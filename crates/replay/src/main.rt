@@ -11,12 +11,11 @@ use board::{Answer, LINE_BYTES, PAGE_BYTES, PROCESS_SLOTS, Pending, RECORD_WORDS
 use log_entries::{ENTRY_WORDS, Entry, Kind, MOST_FIELDS, WORD_MOST};
 use log_reader::Reader;
 use std::env::FillError;
-use std::fmt;
 use std::fmt::InlineText;
 use std::fs::File;
-use std::io;
 use std::io::Read;
 use std::rt::{Env, Files};
+use std::{fmt, io};
 use stores::Access;
 
 // The largest board that it takes, and the lengths of that board's buffers.
@@ -65,6 +64,7 @@ struct Input {
 }
 
 // The buffers of the largest board, of which a board uses the front parts.
+#[derive(Drop)]
 struct Buffers {
     slots: [u32; SLOTS],
     words: [u64; MOST_FRAMES],
@@ -83,6 +83,7 @@ struct Board {
 }
 
 // One more reason for which a log is refused.
+#[derive(Clone, Copy)]
 struct TooLarge;
 
 impl fmt::Display for TooLarge {
@@ -123,14 +124,33 @@ fn call(
             let address = Effective(narrow(fourth));
             let process = first as usize;
             return Answer::from(user_access::user_access(
-                s, slots, words, records, cache, memory, &mut [], *tag, process, a, address,
+                s,
+                slots,
+                words,
+                records,
+                cache,
+                memory,
+                &mut [],
+                *tag,
+                process,
+                a,
+                address,
             ));
         }
         Kind::SupervisorAccess => {
             let a = access(first, second, fourth);
             let address = Global(third);
             return Answer::from(supervisor_access::supervisor_access(
-                s, slots, words, records, cache, memory, &mut [], *tag, a, address,
+                s,
+                slots,
+                words,
+                records,
+                cache,
+                memory,
+                &mut [],
+                *tag,
+                a,
+                address,
             ));
         }
         Kind::Attach => {
@@ -138,7 +158,17 @@ fn call(
             let slot = second as usize;
             let write = fourth != 0;
             slot_calls::attach(
-                s, slots, words, records, cache, memory, &[], process, slot, third, write,
+                s,
+                slots,
+                words,
+                records,
+                cache,
+                memory,
+                &[],
+                process,
+                slot,
+                third,
+                write,
             )
         }
         Kind::Detach => {
@@ -150,7 +180,16 @@ fn call(
             let frame = second as usize;
             let write = third != 0;
             map_call::map(
-                s, slots, words, records, cache, memory, &[], first, frame, write,
+                s,
+                slots,
+                words,
+                records,
+                cache,
+                memory,
+                &[],
+                first,
+                frame,
+                write,
             )
         }
         Kind::Unmap => page_calls::unmap(s, slots, words, records, cache, memory, &[], first),
@@ -165,15 +204,40 @@ fn call(
         Kind::Tag => tag_calls::tag(s, slots, words, records, cache, memory, &[], tag, first),
         Kind::LoadAndMap => {
             let line = first as usize;
-            load_call::load_and_map(
-                s, slots, words, records, cache, memory, &mut [], tag, line,
-            )
+            load_call::load_and_map(s, slots, words, records, cache, memory, &mut [], tag, line)
         }
         Kind::DropTag => tag_calls::drop_tag(s, slots, words, records, cache, memory, &[], tag),
         // the header makes the board, and is no call
         Kind::Header => Ok(()),
     };
     Answer::from(done)
+}
+
+// A call on the front parts of the buffers, as long as the board's numbers say.
+fn call_on_parts(
+    s: Shape,
+    slots: &mut [u32; SLOTS],
+    words: &mut [u64; MOST_FRAMES],
+    records: &mut [u64; RECORDS],
+    cache: &mut [u8; CACHE],
+    memory: &mut [u8; MEMORY],
+    tag: &mut Pending,
+    kind: Kind,
+    fields: [u64; MOST_FIELDS],
+) -> Answer
+    requires { Small s }
+{
+    call(
+        s,
+        &mut slots[..PROCESS_SLOTS * s.processes],
+        &mut words[..s.frames],
+        &mut records[..RECORD_WORDS * s.lines],
+        &mut cache[..LINE_BYTES * s.lines],
+        &mut memory[..PAGE_BYTES * s.frames],
+        tag,
+        kind,
+        fields,
+    )
 }
 
 impl Buffers {
@@ -185,29 +249,6 @@ impl Buffers {
             cache: [0; CACHE],
             memory: [0; MEMORY],
         }
-    }
-
-    // A call on the front parts of the buffers, as long as the board's numbers say.
-    fn call(
-        &mut self,
-        s: Shape,
-        tag: &mut Pending,
-        kind: Kind,
-        fields: [u64; MOST_FIELDS],
-    ) -> Answer
-        requires { Small s }
-    {
-        call(
-            s,
-            &mut self.slots[..PROCESS_SLOTS * s.processes],
-            &mut self.words[..s.frames],
-            &mut self.records[..RECORD_WORDS * s.lines],
-            &mut self.cache[..LINE_BYTES * s.lines],
-            &mut self.memory[..PAGE_BYTES * s.frames],
-            tag,
-            kind,
-            fields,
-        )
     }
 }
 
@@ -244,7 +285,17 @@ impl Board {
     ) -> Board {
         let mut tag = self.tag;
         let calls = self.calls.wrapping_add(1);
-        let a = buffers.call(self.shape, &mut tag, kind, fields);
+        let a = call_on_parts(
+            self.shape,
+            &mut buffers.slots,
+            &mut buffers.words,
+            &mut buffers.records,
+            &mut buffers.cache,
+            &mut buffers.memory,
+            &mut tag,
+            kind,
+            fields,
+        );
         let _ = println!(rt; "{calls} {a}");
         Board {
             shape: self.shape,
@@ -254,12 +305,7 @@ impl Board {
     }
 
     // The board after an entry: the header's, or this one after a call. The reader gives no entry of another kind.
-    fn after(
-        self,
-        rt: &impl Print,
-        buffers: &mut Buffers,
-        e: Entry,
-    ) -> Result<Board, TooLarge> {
+    fn after(self, rt: &impl Print, buffers: &mut Buffers, e: Entry) -> Result<Board, TooLarge> {
         match Kind::try_from(e.kind) {
             Ok(Kind::Header) => Board::of_header(e.fields),
             Ok(kind) => Ok(self.after_call(rt, buffers, kind, e.fields)),
@@ -350,7 +396,7 @@ fn read_on<R: Read>(
 }
 
 // Where a log is refused, and why.
-fn say_refused(rt: &impl Eprint, place: u64, calls: u64, why: impl fmt::Display) {
+fn say_refused(rt: &impl Eprint, place: u64, calls: u64, why: impl fmt::Display + Drop) {
     let _ = eprintln!(rt; "replay: log refused at byte {place}, after {calls} calls: {why}");
 }
 
@@ -365,11 +411,7 @@ fn judge(rt: &impl Eprint, r: Reader, calls: u64)
 
 // Replays a log to its end, or until its board is too large. Nothing says that an input ends, so the turns are counted, to a number that
 // no run uses up.
-fn replay<R: Read>(
-    rt: &(impl Print + Eprint),
-    input: &mut R,
-    name: &str,
-) -> Result<(), TooLarge> {
+fn replay<R: Read>(rt: &(impl Print + Eprint), input: &mut R, name: &str) -> Result<(), TooLarge> {
     let mut buffers = Buffers::zeros();
     let mut entries: [u64; ENTRIES] = [0; ENTRIES];
     let mut board = Board::of_header([0; MOST_FIELDS])?;

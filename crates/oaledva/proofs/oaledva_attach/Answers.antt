@@ -4,4 +4,4 @@ use borrow.Author.Rules.{rules}
 use Rattle.oaledva.proofs.oaledva_attach.Goals as goal
 
 pub returns : goal.returns
-returns c = λ tag. let h = c.attach.ensures tag in search (rules, crosses)
+returns c = λ tag. let h = c.attach-r.ensures tag in search (rules, crosses)

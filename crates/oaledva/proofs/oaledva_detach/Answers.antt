@@ -4,4 +4,4 @@ use borrow.Author.Rules.{rules}
 use Rattle.oaledva.proofs.oaledva_detach.Goals as goal
 
 pub returns : goal.returns
-returns c = λ tag. let h = c.detach.ensures tag in search (rules, crosses)
+returns c = λ tag. let h = c.detach-r.ensures tag in search (rules, crosses)

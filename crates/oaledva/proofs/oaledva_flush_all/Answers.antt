@@ -4,4 +4,4 @@ use borrow.Author.Rules.{rules}
 use Rattle.oaledva.proofs.oaledva_flush_all.Goals as goal
 
 pub returns : goal.returns
-returns c = λ tag. let h = c.flush_all.ensures tag in search (rules, crosses)
+returns c = λ tag. let h = c.flush_all-r.ensures tag in search (rules, crosses)

@@ -1,7 +1,7 @@
 -- `supervisor_access`, packed; no matrices were lent, and none come back.
 use Rattle.crossing.proofs.Packs.{crosses-bare}
-use borrow.Author.Rules.{rules}
 use Rattle.oaledva.proofs.oaledva_supervisor_access.Goals as goal
 
 pub returns : goal.returns
-returns c = search (rules, crosses-bare)
+returns c = rw (← c.one_line-s.ensures, ← c.tag_of-tag.ensures, ← c.access-a.ensures)
+    (crosses-bare _ _ _ _ _ _ _ _ _ c.supervisor_access-r.auto.uses c.packed_access.ensures _ c.supervisor_access-r.ensures)

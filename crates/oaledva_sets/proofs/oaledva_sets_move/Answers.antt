@@ -4,4 +4,4 @@ use borrow.Author.Rules.{rules}
 use Rattle.oaledva_sets.proofs.oaledva_sets_move.Goals as goal
 
 pub returns : goal.returns
-returns c = λ tag. let h = c.move_page.ensures tag in search (rules, crosses)
+returns c = λ tag. let h = c.move_page-r.ensures tag in search (rules, crosses)

@@ -4,4 +4,4 @@ use borrow.Author.Rules.{rules}
 use Rattle.oaledva_sets.proofs.oaledva_sets_unmap.Goals as goal
 
 pub returns : goal.returns
-returns c = λ tag. let h = c.unmap.ensures tag in search (rules, crosses)
+returns c = λ tag. let h = c.unmap-r.ensures tag in search (rules, crosses)
