@@ -1,5 +1,5 @@
 -- 01, "Refusal numbers", and what calls and accesses give: nothing, or a value and a mark, or why they are refused.
-use Rattle.std.specs.Prelude.{ℕ, Bool, true, false, cond, eqb, Result, Ok, Err}
+use Rattle.std.specs.Prelude.{ℕ, Bool, cond, eqb, Result, Ok, Err}
 use Rattle.board.specs.declared.Answer.{Answer}
 use Rattle.board.specs.declared.Accessed.{Accessed}
 use Rattle.board.specs.declared.Mark.{Mark}

@@ -1,8 +1,6 @@
 -- `asked_entry` gives the entry of a page that has one.
-use native.Mathlib.Omega.{arith}
 use Rattle.address.proofs.Entries.{entry-page}
 use Rattle.address.specs.Entries.{asked_entry}
-use borrow.Author.Rules.{rules}
 use Rattle.address.proofs.asked_entry.Goals as goal
 
 pub entry_of-requires : goal.entry_of-requires
