@@ -225,13 +225,14 @@ fn in_numbers(functions: Functions, types: &Types) -> Functions {
     functions.into_iter().map(of).collect()
 }
 
-/// The lines of which `part` gives a name and a number, decimal or 0x, before a comma, a semicolon or a comment.
+/// The lines of which `part` gives a name and a number, decimal, 0x or 1 <<, before a comma, a semicolon or a comment.
 fn numbers(text: &str, part: fn(&str) -> Option<(&str, &str)>) -> Numbers {
     let of_line = |line: &str| {
         let (name, rest) = part(line.trim())?;
         let written = rest.split([',', ';', '/']).next()?.trim();
         let hex = written.strip_prefix("0x").map(|digits| u64::from_str_radix(digits, 16));
-        Some((name.into(), hex.unwrap_or_else(|| written.parse()).ok()?))
+        let bit = written.strip_prefix("1 << ").map(|digits| digits.parse().map(|at: u32| 1 << at));
+        Some((name.into(), hex.or(bit).unwrap_or_else(|| written.parse()).ok()?))
     };
     text.lines().filter_map(of_line).collect()
 }
@@ -255,14 +256,23 @@ fn enumerated(header: &str) -> Vec<Numbers> {
     bodies.map(|body| numbers(body, |line| line.strip_prefix("OALEDVA_")?.split_once(" = "))).collect()
 }
 
-/// The crate's, each in a file of its own, by names as C writes them.
-fn numbered(declarations: &str) -> Numbers {
-    let (body, _) = between(declarations, "\nnumbered! {\n", "\n}").unwrap();
+/// The numbers of an enum's cases, by names as C writes them.
+fn cases(body: &str) -> Numbers {
     let in_c = |name: String| {
         let letters = name.chars().flat_map(|c| if c.is_uppercase() { vec!['_', c] } else { vec![c] });
         letters.skip(1).collect::<String>().to_uppercase()
     };
     numbers(body, |line| line.split_once(" = ")).into_iter().map(|(name, number)| (in_c(name), number)).collect()
+}
+
+/// The crate's, each in a file of its own.
+fn numbered(declarations: &str) -> Numbers {
+    cases(between(declarations, "\nnumbered! {\n", "\n}").unwrap().0)
+}
+
+/// An enum of the source.
+fn enum_of(source: &str, name: &str) -> Numbers {
+    cases(between(source, &format!("pub enum {name} {{\n"), "\n}").unwrap().0)
 }
 
 #[test]
@@ -374,17 +384,20 @@ fn an_entry_of_a_log_and_a_reader_are_so_many_words() {
     );
 }
 
-/// The marks have names in all three, the refusals in the header and the crate.
+/// The marks have the same names in all three, but for 0, which is no mark in the source; the refusals in the header and the crate, and
+/// in the source the same numbers.
 #[test]
 fn numbers_with_names_are_the_same() {
     let [refusals, marks, ..] = &enumerated(&text("include/oaledva.h"))[..] else { panic!("not two enumerations") };
     assert_eq!((refusals.len(), marks.len()), (13, 5));
     assert_eq!(refusals, &numbered(&text("rust/src/refusal.rs")));
     assert_eq!(marks, &numbered(&text("rust/src/mark.rs")));
-    let source = constants(&text("crates/board/src/lib.rt"));
-    for (name, number) in marks {
-        assert_eq!(source.get(name), Some(number), "{name}");
-    }
+    let source = text("crates/board/src/lib.rt");
+    let mut named = marks.clone();
+    assert_eq!(named.remove("NO_ACCESS"), Some(0));
+    assert_eq!(named, enum_of(&source, "Mark"));
+    let by_number = |numbers: &Numbers| numbers.values().copied().collect::<std::collections::BTreeSet<_>>();
+    assert_eq!(by_number(refusals), by_number(&enum_of(&source, "Refusal")));
 }
 
 /// Of logs: the kinds, with what their fields are called, and the reasons, with their words. In the source the reasons have
@@ -399,6 +412,7 @@ fn kinds_and_reasons_are_the_same() {
     let mut calls = kinds.clone();
     assert_eq!(calls.remove("LOG_HEADER"), Some(0));
     assert_eq!((calls.len(), reasons.len()), (12, 6));
+    assert_eq!(kinds, &in_logs(enum_of(&text("crates/log_entries/src/lib.rt"), "Kind")));
     assert_eq!(calls, in_logs(numbered(&text("rust/src/log/kind.rs"))));
     assert_eq!(reasons, &in_logs(numbered(&text("rust/src/log/reason.rs"))));
     for (name, number) in &calls {
@@ -407,7 +421,7 @@ fn kinds_and_reasons_are_the_same() {
         let line = header.lines().find(|line| line.trim().starts_with(&format!("OALEDVA_{name} = "))).unwrap();
         assert!(line.ends_with(&format!("/* {words} */")), "{line}");
     }
-    let source = constants(&text("crates/log_numbers/src/lib.rt"));
+    let source = enum_of(&text("crates/log_numbers/src/lib.rt"), "Reason");
     for (name, number) in reasons {
         let reason = oaledva::log::Reason::of(*number as u32).unwrap();
         let line = format!("    case OALEDVA_{name}: return \"{}\";\n", reason.words());
@@ -431,8 +445,7 @@ fn rules_are_the_same() {
     assert_eq!((rules.remove("RULE_NONE"), rules.len()), (Some(0), oaledva::Rule::ALL.len()));
     let own = numbered(&text("rust/src/rule.rs"));
     assert_eq!(rules, own.into_iter().map(|(name, number)| (format!("RULE_{name}"), number)).collect());
-    let mut source = constants(&text("crates/dumps/src/lib.rt"));
-    source.extend(constants(&text("crates/dump_lines/src/lib.rt")));
+    let source = enum_of(&text("crates/dumps/src/lib.rt"), "Rule");
     for (name, number) in &rules {
         let rule = oaledva::Rule::of(*number as u32).unwrap();
         let line = format!("    case OALEDVA_{name}: return \"{}\";\n", rule.words());
@@ -499,7 +512,7 @@ fn a_changed_declaration_shows() {
     assert_ne!(of_rattle(&dumps), of_rattle(&changed(&dumps, "dropped: &mut [u8]", "dropped: &[u8]")));
     assert_ne!(of_rattle(&dumps), of_rattle(&changed(&dumps, "records: &mut [u64]", "records: &[u64]")));
     assert_ne!(of_rattle(&dumps), of_rattle(&changed(&dumps, "    links: &mut [u64],\n", "")));
-    assert_ne!(constants(&dumps), constants(&changed(&dumps, "RULE_UNIT: u64 = 2", "RULE_UNIT: u64 = 1")));
+    assert_ne!(constants(&dumps), constants(&changed(&dumps, "RULE_UNIT: u64 = 1 << 48", "RULE_UNIT: u64 = 1 << 40")));
     let of_c_changed = |old, new| assert_ne!(of_c(&header), of_c(&changed(&header, old, new)));
     of_c_changed("    uint64_t *keys, size_t keys_length,\n", "");
     of_c_changed("    uint8_t *dropped, size_t dropped_length);", "    uint64_t *dropped, size_t dropped_length);");
@@ -583,5 +596,6 @@ fn a_changed_declaration_shows() {
     assert_ne!(types_of_rust(&crates), types_of_rust(&changed(&crates, "fields: [u64; 5]", "fields: [u64; 4]")));
     assert_ne!(constants(&crates), constants(&changed(&crates, "MARK_AT: u32 = 32", "MARK_AT: u32 = 33")));
     assert_ne!(constants(&crates), constants(&changed(&crates, "ACCESS_WORDS: usize = 5", "ACCESS_WORDS: usize = 4")));
-    assert_ne!(constants(&board), constants(&changed(&board, "WROTE_BACK: u32 = 3", "WROTE_BACK: u32 = 2")));
+    assert_ne!(enum_of(&board, "Mark"), enum_of(&changed(&board, "WroteBack = 3", "WroteBack = 2"), "Mark"));
+    assert_ne!(enum_of(&board, "Refusal"), enum_of(&changed(&board, "Outside = 12", "Outside = 14"), "Refusal"));
 }
