@@ -1,4 +1,4 @@
--- What the code of move decides before it changes anything: a number, or the frame it goes on with.
+-- What the code of move decides before it changes anything: a refusal, or the frame it goes on with.
 use Rattle.std.specs.Prelude.{ℕ, List, Result}
 use Rattle.pages.specs.Pages.{mapped_to}
 use Rattle.board.specs.declared.Refusal.{Refusal}
