@@ -30,7 +30,7 @@ pub enum Region {
 // The sizes of 01's address layout.
 const SEGMENT_BYTES: u32 = 4194304;
 
-const PAGE_BYTES: u64 = 4096;
+pub const PAGE_BYTES: u64 = 4096;
 
 pub const LINE_BYTES: u64 = 16;
 

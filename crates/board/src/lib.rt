@@ -4,7 +4,6 @@
 ghost use Rattle.std.specs.Prelude.{◌≡◌, false, length, ◌*◌, ◌/◌, ◌≤◌, ◌<◌};
 ghost use Rattle.board.specs.Answers.{answer, mark_no_access, mark_of};
 ghost use Rattle.board.specs.Refusals.{number_of, number_of_mark, fit, call_answer, access_answer};
-ghost use Rattle.board.specs.Lists.{bit};
 ghost use Rattle.board.specs.Shapes.{one_line, four_lines, edition_holds, limits_hold, matrices_of, lengths_agree, fits_shape, max_frames, max_processes, max_lines};
 
 use std::error::Error;
@@ -258,18 +257,11 @@ pub const PROCESS_SLOTS: usize = 512;
 pub const RECORD_WORDS: usize = 2;
 
 // A line's and a frame's bytes, and a frame's lines, as places in a buffer.
-pub const LINE_BYTES: usize = 16;
+pub const LINE_BYTES: usize = address::LINE_BYTES as usize;
 
-pub const PAGE_BYTES: usize = 4096;
+pub const PAGE_BYTES: usize = address::PAGE_BYTES as usize;
 
-pub const PAGE_LINES: usize = 256;
-
-// A bit as a number.
-pub fn bit_of(b: bool) -> u64
-    ensures { (result ≡ bit b) × (result ≤ 1) }
-{
-    if b { 1 } else { 0 }
-}
+pub const PAGE_LINES: usize = address::PAGE_NAMES as usize;
 
 // A set has one line; or four, and then there are four lines at least.
 fn edition_holds(s: Shape) -> bool
