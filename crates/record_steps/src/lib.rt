@@ -72,7 +72,13 @@ pub fn flush_line(s: Shape, i: usize, l: Line, cache: &[u8], memory: &mut [u8]) 
         if l.changed {
             line_bytes::copy_line(memory, l.physical as usize, cache, i);
         }
-        return Line::none();
+        return Line {
+            valid: false,
+            name: 0,
+            physical: 0,
+            changed: false,
+            write: false,
+        };
     }
     l
 }
