@@ -51,9 +51,9 @@ module _ (s : Shape) (v : Visit) (i : ℕ) (r c m : List ℕ) (l : Line) (u : Bo
     unfolding visited holds_at
     visited-none f = rw (← e, ← h, f)
 
-    pub visited-treated : (r₁ m₁ : List ℕ) → t ≡ true → store r₁ c m₁ ≡ treated s v.deed i (store r c m) → store r₁ c m₁ ≡ visited s v i (store r c m)
+    pub visited-treated : (b : Store) → t ≡ true → b ≡ treated s v.deed i (store r c m) → b ≡ visited s v i (store r c m)
     unfolding visited holds_at
-    visited-treated r₁ m₁ f g = rw (← e, ← h, ← k, f, n) g
+    visited-treated b f g = rw (← e, ← h, ← k, f, n) g
 
 -- the sweep from record i on
 pub sweep-more : (f : ℕ → Store → Store) (n i : ℕ) (b b₁ : Store) → b₁ ≡ f i b → i < n → sweep f (n - i) i b ≡ sweep f (n - (i + 1)) (i + 1) b₁

@@ -98,43 +98,64 @@ pub fn of_flush() -> Visit
     }
 }
 
-// Does the deed to the line of record `i`.
-fn treat(s: Shape, records: &mut [u64], cache: &[u8], memory: &mut [u8], i: usize, d: Deed)
-    requires { Sized s records.old cache.now memory.old × (i < s.lines) }
-    ensures { store records.new cache.now memory.new ≡ treated s d i (store records.old cache.now memory.old) }
-{
-    match d {
-        Deed::Drop => {
-            lines::drop_line(records, i);
-        }
-        Deed::Retire => {
-            stores::write_back(s, records, cache, memory, i);
-            lines::drop_line(records, i);
-        }
-        Deed::Permit(write) => {
-            lines::permit_line(records, i, write);
-        }
-    }
+// The lines of a board of the shape, lent: their records and bytes, and memory.
+#[derive(Drop)]
+struct Lines<'a> {
+    shape: Shape,
+    records: &'a mut [u64],
+    cache: &'a [u8],
+    memory: &'a mut [u8],
+    ghost sized: { Sized shape records.now cache.now memory.now },
 }
 
-// Visits record `i`, whose place is one of the names' (asked so that no other record is visited): only a held line of theirs changes.
-fn visit_line(s: Shape, records: &mut [u64], cache: &[u8], memory: &mut [u8], i: usize, v: Visit)
-    requires { Sized s records.old cache.now memory.old × (i < s.lines) × HasPlace (sets_of s) v.names (set_at s i) }
-    ensures { store records.new cache.now memory.new ≡ visited s v i (store records.old cache.now memory.old) }
-{
-    let l = lines::line_at(records, i);
-    if ranges::is_named(v.names, l.name) && lines::holds(s, i, l) {
-        treat(s, records, cache, memory, i, v.deed);
-    }
-}
+impl<'a> Lines<'a> {
+    ghost use Rattle.visits.specs.Lent.{store_in, SameLoan};
 
-// Visits the records of a run of places of the names.
-fn visit_run(s: Shape, records: &mut [u64], cache: &[u8], memory: &mut [u8], v: Visit, run: Run)
-    requires { Sized s records.old cache.now memory.old × (run.start ≤ run.end) × (run.end ≤ sets_of s) × Inside (sets_of s) v.names run }
-    ensures { store records.new cache.now memory.new ≡ sweep (visited s v) (first_at s (run.end - run.start)) (first_at s run.start) (store records.old cache.now memory.old) }
-{
-    for i in lines::first_at(s, run.start)..lines::first_at(s, run.end) {
-        visit_line(s, records, cache, memory, i, v);
+    // Does the deed to the line of record `i`.
+    fn treat(&mut self, i: usize, d: Deed)
+        requires { i < self.old.shape.lines }
+        ensures same_loan { SameLoan self.old self.new }
+        ensures treated { store_in self.new ≡ treated self.old.shape d i (store_in self.old) }
+    {
+        match d {
+            Deed::Drop => {
+                lines::drop_line(self.records, i);
+            }
+            Deed::Retire => {
+                // (a name first: of a field that is passed on as `&` only the length stays known)
+                let records = &mut *self.records;
+                stores::write_back(self.shape, records, self.cache, self.memory, i);
+                lines::drop_line(records, i);
+            }
+            Deed::Permit(write) => {
+                lines::permit_line(self.records, i, write);
+            }
+        }
+    }
+
+    // Visits record `i`, whose place is one of the names' (asked so that no other record is visited): only a held line of theirs changes.
+    fn visit_line(&mut self, i: usize, v: Visit)
+        requires { (i < self.old.shape.lines) × HasPlace (sets_of self.old.shape) v.names (set_at self.old.shape i) }
+        ensures same_loan { SameLoan self.old self.new }
+        ensures visited { store_in self.new ≡ visited self.old.shape v i (store_in self.old) }
+    {
+        // (a name first, as in `treat`)
+        let records = &mut *self.records;
+        let l = lines::line_at(records, i);
+        if ranges::is_named(v.names, l.name) && lines::holds(self.shape, i, l) {
+            self.treat(i, v.deed);
+        }
+    }
+
+    // Visits the records of a run of places of the names.
+    fn visit_run(&mut self, v: Visit, run: Run)
+        requires { (run.start ≤ run.end) × (run.end ≤ sets_of self.old.shape) × Inside (sets_of self.old.shape) v.names run }
+        ensures same_loan { SameLoan self.old self.new }
+        ensures swept { store_in self.new ≡ sweep (visited self.old.shape v) (first_at self.old.shape (run.end - run.start)) (first_at self.old.shape run.start) (store_in self.old) }
+    {
+        for i in lines::first_at(self.shape, run.start)..lines::first_at(self.shape, run.end) {
+            self.visit_line(i, v);
+        }
     }
 }
 
@@ -144,11 +165,17 @@ pub fn visit_names(s: Shape, records: &mut [u64], cache: &[u8], memory: &mut [u8
     ensures { store records.new cache.now memory.new ≡ visited_all s v (store records.old cache.now memory.old) }
 {
     let sets = lines::sets_of(s);
+    let mut held = Lines {
+        shape: s,
+        records,
+        cache,
+        memory,
+    };
     let mut place = 0;
     // (no `for`: it goes from run to run, and each begins where the last one ends)
     while place < sets {
         let run = ranges::next_run(sets, v.names, place);
-        visit_run(s, records, cache, memory, v, run);
+        held.visit_run(v, run);
         place = run.end;
     }
 }
