@@ -103,9 +103,7 @@ pub fn supervisor_access(
     s.fit(slots, words, records, cache, memory, uses)?;
     let map = PageMap { shape: s, words };
     match supervisor_plan(&map, tag, a, g)? {
-        Place::Line(h) => line_access::line_access(
-            &map, records, cache, memory, uses, h, false, a,
-        ),
+        Place::Line(h) => line_access::line_access(&map, records, cache, memory, uses, h, false, a),
         Place::Memory(p) => Ok(line_access::memory_access(records, cache, memory, p, a)),
     }
 }
