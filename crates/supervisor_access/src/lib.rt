@@ -101,9 +101,12 @@ pub fn supervisor_access(
     ensures { SupervisorAccess s (sets_board slots.now words.now records.old cache.old memory.old uses.old tag) a g (access_answer result) (sets_board slots.now words.now records.new cache.new memory.new uses.new tag) }
 {
     s.fit(slots, words, records, cache, memory, uses)?;
-    let map = PageMap { shape: s, words };
-    match supervisor_plan(&map, tag, a, g)? {
-        Place::Line(h) => line_access::line_access(&map, records, cache, memory, uses, h, false, a),
+    // (the view is made again for a line: one for both costs an access past the cache five instructions more)
+    match supervisor_plan(&PageMap { shape: s, words }, tag, a, g)? {
+        Place::Line(h) => {
+            let map = PageMap { shape: s, words };
+            line_access::line_access(&map, records, cache, memory, uses, h, false, a)
+        }
         Place::Memory(p) => Ok(line_access::memory_access(records, cache, memory, p, a)),
     }
 }

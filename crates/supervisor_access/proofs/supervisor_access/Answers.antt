@@ -8,6 +8,9 @@ use Rattle.supervisor_access.proofs.Supervisors.{supervisor-unfit, supervisor-st
 use borrow.Author.Rules.{rules}
 use Rattle.supervisor_access.proofs.supervisor_access.Goals as goal
 
+pub invariant_of-supervisor_plan : goal.invariant_of-supervisor_plan
+invariant_of-supervisor_plan c = record { words_are = fitted-words _ _ _ _ _ _ _ _ c.fit.ensures c.in_ok-fit.was; frames_max = fitted-frames _ _ _ _ _ _ _ _ c.fit.ensures c.in_ok-fit.was }
+
 pub invariant_of-map : goal.invariant_of-map
 invariant_of-map c = record { words_are = fitted-words _ _ _ _ _ _ _ _ c.fit.ensures c.in_ok-fit.was; frames_max = fitted-frames _ _ _ _ _ _ _ _ c.fit.ensures c.in_ok-fit.was }
 
