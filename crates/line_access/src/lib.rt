@@ -17,6 +17,7 @@ ghost use Rattle.stores.specs.Stores.{store};
 
 use address::{Global, LINE_BYTES, Physical};
 use board::{Accessed, Mark, Refusal, Shape};
+use pages::PageMap;
 use reach::Way;
 use stores::Access;
 
@@ -111,8 +112,7 @@ fn may_write(way: Way) -> bool
 
 // An access to a line, with numbers 8 and 9.
 pub fn line_access(
-    s: Shape,
-    words: &[u64],
+    map: &PageMap,
     records: &mut [u64],
     cache: &mut [u8],
     memory: &mut [u8],
@@ -121,10 +121,11 @@ pub fn line_access(
     user: bool,
     a: Access,
 ) -> Result<Accessed, Refusal>
-    requires { Sized s records.old cache.old memory.old × (length uses.old ≡ matrices_of s) × (length words.now ≡ s.frames) × Width a.width × InWord g.0 a.width }
-    ensures { touched (ended (access_answer result) (store records.new cache.new memory.new)) uses.new ≡ line_access s words.now g user a (store records.old cache.old memory.old) uses.old }
+    requires { Sized map.now.shape records.old cache.old memory.old × (length uses.old ≡ matrices_of map.now.shape) × Width a.width × InWord g.0 a.width }
+    ensures { touched (ended (access_answer result) (store records.new cache.new memory.new)) uses.new ≡ line_access map.now.shape map.now.words.now g user a (store records.old cache.old memory.old) uses.old }
 {
-    let way = reach::way_to(s, words, records, g).ok_or(Refusal::Unmapped)?;
+    let s = map.shape;
+    let way = reach::way_to(map, records, g).ok_or(Refusal::Unmapped)?;
     if user & (a.store & !may_write(way)) {
         return Err(Refusal::ReadOnlyPage);
     }

@@ -1,9 +1,9 @@
 // 01, "Calls": load-and-map.
 #![tactic(auto)]
 
-ghost use Rattle.std.specs.Prelude.{◌≡◌, ◌*◌, ◌≤◌, ◌<◌, length};
+ghost use Rattle.std.specs.Prelude.{◌≡◌, ◌*◌, ◌<◌, length};
 ghost use Rattle.address.specs.Layout.{page_lines};
-ghost use Rattle.board.specs.Shapes.{max_frames, matrices_of};
+ghost use Rattle.board.specs.Shapes.{matrices_of};
 ghost use Rattle.stores.specs.Premises.{Sized};
 ghost use Rattle.machine.specs.Calls.{loaded_with, loaded};
 ghost use Rattle.machine.specs.Clauses.{LoadAndMap};
@@ -14,31 +14,30 @@ ghost use Rattle.stores.specs.Stores.{store};
 
 use address::PAGE_NAMES;
 use board::{PAGE_LINES, Pending, Refusal, Shape};
+use pages::PageMap;
 
 // Numbers 8 and 13 of load-and-map, or the page's permission.
-fn load_frame(s: Shape, words: &[u64], name: u64, line: usize) -> Result<bool, Refusal>
-    requires { (length words.now ≡ s.frames) × (s.frames ≤ max_frames) }
-    ensures { result ≡ load_frame s words.now name line }
+fn load_frame(map: &PageMap, name: u64, line: usize) -> Result<bool, Refusal>
+    ensures { result ≡ load_frame map.now.shape map.now.words.now name line }
 {
-    let f = pages::mapped_to(s, words, name / PAGE_NAMES).ok_or(Refusal::Unmapped)?;
+    let f = map.mapped_to(name / PAGE_NAMES).ok_or(Refusal::Unmapped)?;
     if line != f * PAGE_LINES + (name % PAGE_NAMES) as usize {
         return Err(Refusal::WrongLine);
     }
-    Ok(pages::word_writes(words[f]))
+    Ok(pages::word_writes(map.words[f]))
 }
 
 // Numbers 2, 3, 8 and 13 of load-and-map, or the page's permission.
-fn load_check(s: Shape, words: &[u64], pending: Pending, line: usize) -> Result<bool, Refusal>
-    requires { (length words.now ≡ s.frames) × (s.frames ≤ max_frames) }
-    ensures { result ≡ load_check s words.now pending line }
+fn load_check(map: &PageMap, pending: Pending, line: usize) -> Result<bool, Refusal>
+    ensures { result ≡ load_check map.now.shape map.now.words.now pending line }
 {
-    if line >= PAGE_LINES * s.frames {
+    if line >= PAGE_LINES * map.shape.frames {
         return Err(Refusal::OutOfRange);
     }
     if !pending.set {
         return Err(Refusal::TagState);
     }
-    load_frame(s, words, pending.name, line)
+    load_frame(map, pending.name, line)
 }
 
 // Fills a line, in the victim of its set, unless it is held already.
@@ -79,7 +78,7 @@ pub fn load_and_map(
     ensures { LoadAndMap s (sets_board slots.now words.now records.old cache.old memory.old uses.old pending.old) line (call_answer result) (sets_board slots.now words.now records.new cache.new memory.new uses.new pending.new) }
 {
     s.fit(slots, words, records, cache, memory, uses)?;
-    let write = load_check(s, words, *pending, line)?;
+    let write = load_check(&PageMap { shape: s, words }, *pending, line)?;
     load_line(s, records, cache, memory, uses, pending.name, line, write);
     *pending = Pending::none();
     Ok(())

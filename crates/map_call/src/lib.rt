@@ -1,7 +1,7 @@
 // 01, "Calls": map.
 #![tactic(auto)]
 
-ghost use Rattle.std.specs.Prelude.{◌≡◌, ◌&&◌, length};
+ghost use Rattle.std.specs.Prelude.{◌≡◌, ◌&&◌};
 ghost use Rattle.address.specs.Addresses.{ordinary_page};
 ghost use Rattle.board.specs.declared.Pending.{Pending};
 ghost use Rattle.board.specs.Refusals.{call_answer};
@@ -11,6 +11,7 @@ ghost use Rattle.map_call.specs.Checks.{map_check};
 ghost use Rattle.machine.specs.Boards.{sets_board};
 
 use board::{Refusal, Shape};
+use pages::PageMap;
 
 // An ordinary page, and a frame from U up and below F.
 fn map_fits(s: Shape, page: u64, frame: usize) -> bool
@@ -20,17 +21,16 @@ fn map_fits(s: Shape, page: u64, frame: usize) -> bool
 }
 
 // Numbers 2, 10 and 11 of map.
-fn map_check(s: Shape, words: &[u64], page: u64, frame: usize) -> Result<(), Refusal>
-    requires { length words.now ≡ s.frames }
-    ensures { result ≡ map_check s words.now page frame }
+fn map_check(map: &PageMap, page: u64, frame: usize) -> Result<(), Refusal>
+    ensures { result ≡ map_check map.now.shape map.now.words.now page frame }
 {
-    if !map_fits(s, page, frame) {
+    if !map_fits(map.shape, page, frame) {
         return Err(Refusal::OutOfRange);
     }
-    if words[frame] != 0 {
+    if map.words[frame] != 0 {
         return Err(Refusal::FrameInUse);
     }
-    if pages::mapped_to(s, words, page).is_some() {
+    if map.mapped_to(page).is_some() {
         return Err(Refusal::AlreadyMapped);
     }
     Ok(())
@@ -52,7 +52,7 @@ pub fn map(
     ensures { (tag : Pending) → Map s (sets_board slots.now words.old records.old cache.now memory.old uses.now tag) page frame write (call_answer result) (sets_board slots.now words.new records.new cache.now memory.new uses.now tag) }
 {
     s.fit(slots, words, records, cache, memory, uses)?;
-    map_check(s, words, page, frame)?;
+    map_check(&PageMap { shape: s, words }, page, frame)?;
     visits::visit_names(s, records, cache, memory, visits::of_map(page, frame));
     line_bytes::zero_frame(memory, frame);
     words[frame] = pages::frame_word(page, write);

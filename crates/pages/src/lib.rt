@@ -80,51 +80,60 @@ fn lowest_frame(words: &[u64], u: usize, page: u64) -> Option<usize>
     None
 }
 
-// The frame that a page is mapped to.
-pub fn mapped_to(s: Shape, words: &[u64], page: u64) -> Option<usize>
-    ensures { result ≡ mapped_to s words.now page }
-{
-    if ordinary_page(page) {
-        return lowest_frame(words, s.uncached, page);
-    }
-    None
+// The page map: the frame words of a board, as many as its frames.
+#[derive(Clone, Copy)]
+pub struct PageMap<'a> {
+    pub shape: Shape,
+    pub words: &'a [u64],
+    pub ghost words_are: { length words.now ≡ shape.frames },
+    pub ghost frames_max: { shape.frames ≤ max_frames },
 }
 
-// A frame from U up whose word is 0.
-fn free_frame(s: Shape, words: &[u64], frame: usize) -> bool
-    requires { length words.now ≡ s.frames }
-    ensures { result ≡ free_frame s words.now frame }
-{
-    s.uncached <= frame && frame < s.frames && words[frame] == 0
-}
-
-// The physical line of an address under prefix 1.
-fn direct_home(s: Shape, words: &[u64], g: Global) -> Option<Home>
-    requires { length words.now ≡ s.frames }
-    ensures { result ≡ direct_home s words.now (name_of g) }
-{
-    if g.prefix() == 1 {
-        let p = g.physical();
-        if free_frame(s, words, p.frame()) {
-            return Some(Home {
-                line: p.line(),
-                write: true,
-            });
+impl<'a> PageMap<'a> {
+    // The frame that a page is mapped to.
+    pub fn mapped_to(&self, page: u64) -> Option<usize>
+        ensures { result ≡ mapped_to self.now.shape self.now.words.now page }
+    {
+        if ordinary_page(page) {
+            return lowest_frame(self.words, self.shape.uncached, page);
         }
+        None
     }
-    None
-}
 
-// The physical line that an address maps to.
-pub fn home_of(s: Shape, words: &[u64], g: Global) -> Option<Home>
-    requires { (length words.now ≡ s.frames) × (s.frames ≤ max_frames) }
-    ensures { result ≡ home_of s words.now (name_of g) }
-{
-    match mapped_to(s, words, g.page()) {
-        Some(f) => Some(Home {
-            line: g.in_frame(f).line(),
-            write: word_writes(words[f]),
-        }),
-        None => direct_home(s, words, g),
+    // A frame from U up whose word is 0.
+    fn free_frame(&self, frame: usize) -> bool
+        ensures { result ≡ free_frame self.now.shape self.now.words.now frame }
+    {
+        let s = self.shape;
+        s.uncached <= frame && frame < s.frames && self.words[frame] == 0
+    }
+
+    // The physical line of an address under prefix 1.
+    fn direct_home(&self, g: Global) -> Option<Home>
+        ensures { result ≡ direct_home self.now.shape self.now.words.now (name_of g) }
+    {
+        if g.prefix() == 1 {
+            let p = g.physical();
+            if self.free_frame(p.frame()) {
+                return Some(Home {
+                    line: p.line(),
+                    write: true,
+                });
+            }
+        }
+        None
+    }
+
+    // The physical line that an address maps to.
+    pub fn home_of(&self, g: Global) -> Option<Home>
+        ensures { result ≡ home_of self.now.shape self.now.words.now (name_of g) }
+    {
+        match self.mapped_to(g.page()) {
+            Some(f) => Some(Home {
+                line: g.in_frame(f).line(),
+                write: word_writes(self.words[f]),
+            }),
+            None => self.direct_home(g),
+        }
     }
 }

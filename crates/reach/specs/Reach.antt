@@ -1,7 +1,6 @@
 -- How a line is reached: by a record that holds it, else by what its name maps to.
 use Rattle.std.specs.Prelude.{ℕ, Bool, true, false, List, Option, Some, None}
 use Rattle.pages.specs.Pages.{home_of}
-use Rattle.board.specs.Homes.{at_line}
 use Rattle.board.specs.declared.Shape.{Shape}
 use Rattle.board.specs.declared.Home.{Home}
 use Rattle.lines.specs.Records.{line_at}

@@ -7,7 +7,7 @@ ghost use Rattle.lines.specs.Premises.{Lined};
 ghost use Rattle.reach.specs.Reach.{way_of};
 
 use address::Global;
-use board::Shape;
+use pages::PageMap;
 
 // How a line is reached: by the record that holds it, or by its physical line. The bool is the permission to write.
 #[derive(Clone, Copy)]
@@ -17,17 +17,17 @@ pub enum Way {
 }
 
 // How the line of this address is reached, if it is.
-pub fn way_to(s: Shape, words: &[u64], records: &[u64], g: Global) -> Option<Way>
-    requires { Lined s × (length words.now ≡ s.frames) × (length records.now ≡ 2 * s.lines) }
-    ensures { result ≡ way_of s words.now records.now (name_of g) }
+pub fn way_to(map: &PageMap, records: &[u64], g: Global) -> Option<Way>
+    requires { Lined map.now.shape × (length records.now ≡ 2 * map.now.shape.lines) }
+    ensures { result ≡ way_of map.now.shape map.now.words.now records.now (name_of g) }
 {
-    match lines::holder_of(s, records, g.name()) {
+    match lines::holder_of(map.shape, records, g.name()) {
         Some(i) => {
             let l = lines::line_at(records, i);
             Some(Way::Held(i, l.write))
         }
         None => {
-            let home = pages::home_of(s, words, g)?;
+            let home = map.home_of(g)?;
             Some(Way::InMemory(home.line, home.write))
         }
     }

@@ -1,7 +1,7 @@
 // 01, "Calls": a supervisor's load or store, by global address.
 #![tactic(auto)]
 
-ghost use Rattle.std.specs.Prelude.{◌≡◌, length};
+ghost use Rattle.std.specs.Prelude.{◌≡◌};
 ghost use Rattle.board.specs.Refusals.{access_answer};
 ghost use Rattle.machine.specs.Clauses.{SupervisorAccess};
 ghost use Rattle.supervisor_access.specs.Plans.{region_plan, waits, supervisor_plan};
@@ -9,6 +9,7 @@ ghost use Rattle.machine.specs.Boards.{sets_board};
 
 use address::{GLOBAL_END, Global, Physical, Region};
 use board::{Accessed, Pending, Refusal, Shape};
+use pages::PageMap;
 use stores::Access;
 
 // Where a supervisor access goes: to the line of an address, or past the cache to an address in memory.
@@ -19,34 +20,32 @@ enum Place {
 }
 
 // Numbers 10 and 12 of an access under prefix 1, or its line.
-fn cached_plan(s: Shape, words: &[u64], g: Global) -> Result<Place, Refusal>
-    requires { length words.now ≡ s.frames }
-    ensures { result ≡ region_plan s words.now g Region.Cached }
+fn cached_plan(map: &PageMap, g: Global) -> Result<Place, Refusal>
+    ensures { result ≡ region_plan map.now.shape map.now.words.now g Region.Cached }
 {
     let frame = g.physical().frame();
-    if s.frames <= frame {
+    if map.shape.frames <= frame {
         return Err(Refusal::Outside);
     }
-    if words[frame] != 0 {
+    if map.words[frame] != 0 {
         return Err(Refusal::FrameInUse);
     }
-    if frame < s.uncached {
+    if frame < map.shape.uncached {
         return Err(Refusal::Outside);
     }
     Ok(Place::Line(g))
 }
 
 // Numbers 10 and 12 of a supervisor access, or where it goes.
-fn region_plan(s: Shape, words: &[u64], g: Global, region: Region) -> Result<Place, Refusal>
-    requires { length words.now ≡ s.frames }
-    ensures { result ≡ region_plan s words.now g region }
+fn region_plan(map: &PageMap, g: Global, region: Region) -> Result<Place, Refusal>
+    ensures { result ≡ region_plan map.now.shape map.now.words.now g region }
 {
     match region {
         Region::Ordinary => Ok(Place::Line(g)),
-        Region::Cached => cached_plan(s, words, g),
+        Region::Cached => cached_plan(map, g),
         Region::Uncached => {
             let p = g.physical();
-            if s.uncached <= p.frame() {
+            if map.shape.uncached <= p.frame() {
                 return Err(Refusal::Outside);
             }
             Ok(Place::Memory(p))
@@ -64,15 +63,8 @@ fn must_wait(tag: Pending, region: Region) -> bool
 
 // Numbers 2, 3, 4, 10 and 12 of a supervisor access, or where it goes. The value is asked next to the width,
 // as in a user access, and before number 3 is given.
-fn supervisor_plan(
-    s: Shape,
-    words: &[u64],
-    tag: Pending,
-    a: Access,
-    g: Global,
-) -> Result<Place, Refusal>
-    requires { length words.now ≡ s.frames }
-    ensures { result ≡ supervisor_plan s words.now tag a g }
+fn supervisor_plan(map: &PageMap, tag: Pending, a: Access, g: Global) -> Result<Place, Refusal>
+    ensures { result ≡ supervisor_plan map.now.shape map.now.words.now tag a g }
 {
     if g.0 >= GLOBAL_END {
         return Err(Refusal::OutOfRange);
@@ -90,7 +82,7 @@ fn supervisor_plan(
     if !line_access::aligned(a.width, g.0) {
         return Err(Refusal::Misaligned);
     }
-    region_plan(s, words, g, region)
+    region_plan(map, g, region)
 }
 
 // A supervisor's load or store by global address.
@@ -109,10 +101,12 @@ pub fn supervisor_access(
     ensures { SupervisorAccess s (sets_board slots.now words.now records.old cache.old memory.old uses.old tag) a g (access_answer result) (sets_board slots.now words.now records.new cache.new memory.new uses.new tag) }
 {
     s.fit(slots, words, records, cache, memory, uses)?;
-    match supervisor_plan(s, words, tag, a, g)? {
-        Place::Line(h) => line_access::line_access(
-            s, words, records, cache, memory, uses, h, false, a,
-        ),
+    // (the view is made again for a line: one for both costs an access past the cache five instructions more)
+    match supervisor_plan(&PageMap { shape: s, words }, tag, a, g)? {
+        Place::Line(h) => {
+            let map = PageMap { shape: s, words };
+            line_access::line_access(&map, records, cache, memory, uses, h, false, a)
+        }
         Place::Memory(p) => Ok(line_access::memory_access(records, cache, memory, p, a)),
     }
 }

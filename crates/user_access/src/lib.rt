@@ -11,6 +11,7 @@ ghost use Rattle.machine.specs.Boards.{sets_board};
 
 use address::{Effective, Global};
 use board::{Accessed, PROCESS_SLOTS, Pending, Refusal, Shape};
+use pages::PageMap;
 use stores::Access;
 
 // Numbers 6 and 7 by the slot's word, or the global address.
@@ -86,7 +87,8 @@ pub fn fitting_access(
     ensures { UserAccess s (sets_board slots.now words.now records.old cache.old memory.old uses.old tag) process a e (access_answer result) (sets_board slots.now words.now records.new cache.new memory.new uses.new tag) }
 {
     let g = user_check(s, slots, tag, process, a, e)?;
-    line_access::line_access(s, words, records, cache, memory, uses, g, true, a)
+    let map = PageMap { shape: s, words };
+    line_access::line_access(&map, records, cache, memory, uses, g, true, a)
 }
 
 // A user's load or store.

@@ -11,7 +11,7 @@ pub perform_on-requires : goal.perform_on-requires
 perform_on-requires c = (held-record _ _ _ _ _ c.way_to.ensures _ c.ok_or.ensures.value _ c.in_ok-way.was _ _ c.in-Held.is _ _ c.requires.0, held_bytes _ _ _ _ _ c.way_to.ensures _ c.ok_or.ensures.value _ c.in_ok-way.was _ _ c.in-Held.is _ _ c.requires.0, search rules, search rules, search rules)
 
 pub refill_access-requires : goal.refill_access-requires
-refill_access-requires c = (search rules, search rules, memory-inside _ _ _ _ _ c.way_to.ensures _ c.ok_or.ensures.value _ c.in_ok-way.was _ _ c.in-InMemory.is c.requires.2, search rules, search rules, search rules)
+refill_access-requires c = (search rules, search rules, memory-inside _ _ _ _ _ c.way_to.ensures _ c.ok_or.ensures.value _ c.in_ok-way.was _ _ c.in-InMemory.is c.args.map.now.words_are, search rules, search rules, search rules)
 
 pub returns-in_err-way : goal.returns-in_err-way
 returns-in_err-way c =

@@ -5,8 +5,8 @@ use Rattle.machine.proofs.Fits.{fitted-sized, fitted-uses, fitted-words, fitted-
 use Rattle.load_call.proofs.Loads.{fill-line, load-refused, load-done}
 use Rattle.load_call.proofs.load_and_map.Goals as goal
 
-pub load_check-requires : goal.load_check-requires
-load_check-requires c = (fitted-words _ _ _ _ _ _ _ _ c.fit.ensures c.in_ok-fit.was, fitted-frames _ _ _ _ _ _ _ _ c.fit.ensures c.in_ok-fit.was)
+pub invariant_of-load_check : goal.invariant_of-load_check
+invariant_of-load_check c = record { words_are = fitted-words _ _ _ _ _ _ _ _ c.fit.ensures c.in_ok-fit.was; frames_max = fitted-frames _ _ _ _ _ _ _ _ c.fit.ensures c.in_ok-fit.was }
 
 pub load_line-requires : goal.load_line-requires
 load_line-requires c = (

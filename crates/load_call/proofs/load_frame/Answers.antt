@@ -16,8 +16,8 @@ overflow_add-f c = omega (arith, home-inside _ _ _ c.args.line _ c.mapped_to.ens
 pub returns-then-line-f : goal.returns-then-line-f
 returns-then-line-f c = home-other _ _ _ _ _ c.mapped_to.ensures _ c.ok_or.ensures.value _ c.in_ok-f.was c.if-line-f.true
 
-pub bounds-words-f : goal.bounds-words-f
-bounds-words-f c = home-inside _ _ _ c.args.line _ c.mapped_to.ensures _ c.ok_or.ensures.value _ c.in_ok-f.was
+pub bounds-map-f : goal.bounds-map-f
+bounds-map-f c = home-inside _ _ _ c.args.line _ c.mapped_to.ensures _ c.ok_or.ensures.value _ c.in_ok-f.was
 
 pub returns : goal.returns
 returns c = home-fill _ _ _ _ _ c.mapped_to.ensures _ c.ok_or.ensures.value _ c.in_ok-f.was _ c.if-line-f.false c.word_writes.ensures

@@ -10,8 +10,8 @@ pub returns-in_err-fit : goal.returns-in_err-fit
 unfolding map_page
 returns-in_err-fit c = λ tag. unfitted _ _ _ _ _ _ _ _ c.fit.ensures _ _ tag _ _ c.in_err-fit.was (passed c.from_residual.ensures.1)
 
-pub map_check-requires : goal.map_check-requires
-map_check-requires c = fitted-words _ _ _ _ _ _ _ _ c.fit.ensures c.in_ok-fit.was
+pub invariant_of-map_check : goal.invariant_of-map_check
+invariant_of-map_check c = record { words_are = fitted-words _ _ _ _ _ _ _ _ c.fit.ensures c.in_ok-fit.was; frames_max = fitted-frames _ _ _ _ _ _ _ _ c.fit.ensures c.in_ok-fit.was }
 
 pub returns-in_err-map_check : goal.returns-in_err-map_check
 returns-in_err-map_check c = λ tag. map-refused _ _ _ _ _ _ _ tag _ c.fit.ensures c.in_ok-fit.was _ _ _ _ c.map_check.ensures _ _ c.in_err-map_check.was

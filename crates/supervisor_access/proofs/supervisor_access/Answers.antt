@@ -2,19 +2,22 @@
 use Rattle.std.specs.Prelude.{Ok}
 use mathlib.Core.Path.{◌∙◌, ap}
 use Rattle.board.proofs.Refusals.{passed}
-use Rattle.machine.proofs.Fits.{fitted-sized, fitted-words, fitted-uses}
+use Rattle.machine.proofs.Fits.{fitted-sized, fitted-words, fitted-frames, fitted-uses}
 use Rattle.supervisor_access.proofs.Plans.{line-wide, line-inside, memory-wide, memory-in-word, memory-inside}
 use Rattle.supervisor_access.proofs.Supervisors.{supervisor-unfit, supervisor-stopped, supervisor-line, supervisor-memory}
 use borrow.Author.Rules.{rules}
 use Rattle.supervisor_access.proofs.supervisor_access.Goals as goal
 
-pub supervisor_plan-requires : goal.supervisor_plan-requires
-supervisor_plan-requires c = search (rules, fitted-words)
+pub invariant_of-supervisor_plan : goal.invariant_of-supervisor_plan
+invariant_of-supervisor_plan c = record { words_are = fitted-words _ _ _ _ _ _ _ _ c.fit.ensures c.in_ok-fit.was; frames_max = fitted-frames _ _ _ _ _ _ _ _ c.fit.ensures c.in_ok-fit.was }
+
+pub invariant_of-map : goal.invariant_of-map
+invariant_of-map c = record { words_are = fitted-words _ _ _ _ _ _ _ _ c.fit.ensures c.in_ok-fit.was; frames_max = fitted-frames _ _ _ _ _ _ _ _ c.fit.ensures c.in_ok-fit.was }
 
 pub line_access-requires : goal.line_access-requires
 line_access-requires c =
     let k = c.in_ok-h.was ∙ ap Ok c.in-Line.is in
-    (search (rules, fitted-sized), search (rules, fitted-uses), search (rules, fitted-words), line-wide _ _ _ _ _ _ c.supervisor_plan.ensures _ k, line-inside _ _ _ _ _ _ c.supervisor_plan.ensures _ k)
+    (search (rules, fitted-sized), search (rules, fitted-uses), line-wide _ _ _ _ _ _ c.supervisor_plan.ensures _ k, line-inside _ _ _ _ _ _ c.supervisor_plan.ensures _ k)
 
 pub memory_access-requires : goal.memory_access-requires
 memory_access-requires c =

@@ -8,8 +8,11 @@ use Rattle.user_access.proofs.fitting_access.Goals as goal
 pub user_check-requires : goal.user_check-requires
 user_check-requires c = (search (rules, fitting-slots), search (rules, fitting-processes))
 
+pub invariant_of-map : goal.invariant_of-map
+invariant_of-map c = record { words_are = fitting-words _ _ _ _ _ _ _ c.requires; frames_max = (fitting-sized _ _ _ _ _ _ _ c.requires).lined.frames_max }
+
 pub line_access-requires : goal.line_access-requires
-line_access-requires c = (search (rules, fitting-sized), search (rules, fitting-uses), search (rules, fitting-words), search (rules, passed-wide), search (rules, passed-inside))
+line_access-requires c = (search (rules, fitting-sized), search (rules, fitting-uses), search (rules, passed-wide), search (rules, passed-inside))
 
 pub returns-in_err-g : goal.returns-in_err-g
 returns-in_err-g c = user-refused _ _ _ _ _ _ _ c.requires _ _ _ _ _ c.user_check.ensures _ _ c.in_err-g.was (passed c.from_residual.ensures.1)

@@ -2,7 +2,7 @@
 use native.Mathlib.Omega.{arith}
 use Rattle.pages.proofs.Frames.{mapped-inside, address-home-at, address-home-direct}
 use borrow.Author.Rules.{rules}
-use Rattle.pages.proofs.home_of.Goals as goal
+use Rattle.pages.proofs.PageMap.home_of.Goals as goal
 
 pub returns-in-Some : goal.returns-in-Some
 returns-in-Some c = search (rules, address-home-at)
@@ -10,11 +10,11 @@ returns-in-Some c = search (rules, address-home-at)
 pub returns-in-None : goal.returns-in-None
 returns-in-None c = search (rules, address-home-direct)
 
-pub offset_bounds-words-f : goal.offset_bounds-words-f
-offset_bounds-words-f c = omega (arith, mapped-inside _ _ _ _ _ c.mapped_to.ensures c.in-Some.is)
+pub offset_bounds-self-f : goal.offset_bounds-self-f
+offset_bounds-self-f c = omega (arith, mapped-inside _ _ _ _ _ c.mapped_to.ensures c.in-Some.is)
 
-pub bounds-words-f : goal.bounds-words-f
-bounds-words-f c = omega (arith, mapped-inside _ _ _ _ _ c.mapped_to.ensures c.in-Some.is)
+pub bounds-self-f : goal.bounds-self-f
+bounds-self-f c = omega (arith, mapped-inside _ _ _ _ _ c.mapped_to.ensures c.in-Some.is)
 
 pub in_frame-requires : goal.in_frame-requires
 in_frame-requires c = omega (arith, mapped-inside _ _ _ _ _ c.mapped_to.ensures c.in-Some.is)

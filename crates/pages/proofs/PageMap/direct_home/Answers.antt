@@ -1,7 +1,7 @@
 -- `direct_home` gives the home under prefix 1: one law a return.
 use Rattle.pages.proofs.Frames.{address-direct-free, address-direct-used, address-direct-other}
 use borrow.Author.Rules.{rules}
-use Rattle.pages.proofs.direct_home.Goals as goal
+use Rattle.pages.proofs.PageMap.direct_home.Goals as goal
 
 pub returns-then-free_frame : goal.returns-then-free_frame
 returns-then-free_frame c = search (rules, address-direct-free)

@@ -3,7 +3,7 @@ use borrow.Author.Tests.{le-leb, lt-ltb}
 use Rattle.pages.specs.Pages.{free_frame}
 use Rattle.address.proofs.Tests.{tests}
 use borrow.Author.Rules.{rules}
-use Rattle.pages.proofs.free_frame.Goals as goal
+use Rattle.pages.proofs.PageMap.free_frame.Goals as goal
 
 pub returns-then-frame-s : goal.returns-then-frame-s
 unfolding free_frame
