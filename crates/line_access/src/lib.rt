@@ -17,6 +17,7 @@ ghost use Rattle.stores.specs.Stores.{store};
 
 use address::{Global, LINE_BYTES, Physical};
 use board::{Accessed, Mark, Refusal, Shape};
+use lines::LineRecords;
 use pages::PageMap;
 use reach::Way;
 use stores::Access;
@@ -94,7 +95,7 @@ fn refill_access(
     requires { Sized s records.old cache.old memory.old × (length uses.old ≡ matrices_of s) × (line < page_lines * s.frames) × (offset < line_bytes) × InWord offset a.width × Width a.width }
     ensures { touched (ended (access_answer (Ok result)) (store records.new cache.new memory.new)) uses.new ≡ refilled s name line write offset a (store records.old cache.old memory.old) uses.old }
 {
-    let to = lines::victim_of(s, records, uses, name);
+    let to = LineRecords { shape: s, records }.victim_of(uses, name);
     lines::note_use(s, uses, to);
     let back = stores::insert(s, records, cache, memory, to, name, line, write);
     perform_on(records, cache, memory, to, offset, a, false, back)

@@ -13,6 +13,7 @@ ghost use Rattle.machine.specs.Clauses.{FlushAll, LookNumber, Look};
 ghost use Rattle.machine.specs.Boards.{sets_board};
 
 use board::{LINE_BYTES, PAGE_LINES, Refusal, Shape};
+use lines::LineRecords;
 
 // Writes back every changed line and drops all.
 pub fn flush_all(
@@ -62,7 +63,7 @@ fn current_part<'a>(
     requires { Sized s records.now cache.now memory.now × (line < page_lines * s.frames) }
     ensures { (result.now ≡ current s (store records.now cache.now memory.now) line) × (result.ref_ptr ≡ start_by cache.entry.ref_ptr memory.entry.ref_ptr line (keeper_of s records.now line)) }
 {
-    match lines::keeper_of(s, records, line) {
+    match (LineRecords { shape: s, records }).keeper_of(line) {
         Some(i) => {
             let a = LINE_BYTES * i;
             &cache[a..a + LINE_BYTES]

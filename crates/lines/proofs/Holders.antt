@@ -54,11 +54,8 @@ place-few s place l p = omega (arith, sets-low s l, l.lines_max)
 
 -- the records of a place
 module _ (s : Shape) (place at : ℕ) (l : Lined s) (p : place < sets_of s) (f : at ≡ first_at s place) where
-  first-inside : at < s.lines
+  pub first-inside : at < s.lines
   first-inside = rw f (omega (arith, in_lines s.ways place 0 (ways_pos s l) s.lines p))
-
-  pub first-room : (n : ℕ) → n ≡ 2 * s.lines → 2 * at + 2 ≤ n
-  first-room n e = omega (arith, first-inside)
 
   pub four-inside : s.ways ≡ set_lines → at + set_lines ≤ s.lines
   four-inside e = let z = in_lines s.ways place 3 (omega (arith, e)) s.lines p in omega (arith, rw e at z, rw e at f)

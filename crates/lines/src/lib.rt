@@ -126,15 +126,6 @@ pub fn holds(s: Shape, i: usize, l: Line) -> bool
     l.valid & ((own == place) & (l.physical < end as u64))
 }
 
-// Record `i` holds the line of this name.
-fn holds_name(s: Shape, records: &[u64], i: usize, name: u64) -> bool
-    requires { Lined s × (2 * i + 2 ≤ length records.now) }
-    ensures { result ≡ holds_name s records.now name i }
-{
-    let l = line_at(records, i);
-    l.name == name && holds(s, i, l)
-}
-
 // Record `i` if it has this name, held or not; else `later`.
 fn named_or(records: &[u64], i: usize, name: u64, later: usize) -> usize
     requires { 2 * i + 2 ≤ length records.now }
@@ -158,92 +149,136 @@ fn named_in(records: &[u64], first: usize, name: u64) -> usize
     named_or(records, first, name, b)
 }
 
-// The lowest of a set's four records that holds the line of this name.
-fn holder_in(s: Shape, records: &[u64], first: usize, name: u64) -> Option<usize>
-    requires { Lined s × (first + set_lines ≤ s.lines) × (length records.now ≡ 2 * s.lines) }
-    ensures { result ≡ lowest (holds_name s records.now name) first set_lines }
-{
-    for i in named_in(records, first, name)..first + SET_LINES {
-        if holds_name(s, records, i, name) {
-            return Some(i);
+// The line records of a board, as many as its lines.
+#[derive(Clone, Copy)]
+pub struct LineRecords<'a> {
+    pub shape: Shape,
+    pub records: &'a [u64],
+    pub ghost lined: { Lined shape },
+    pub ghost records_are: { length records.now ≡ 2 * shape.lines },
+}
+
+impl<'a> LineRecords<'a> {
+    // Record `i` holds the line of this name.
+    fn holds_name(&self, i: usize, name: u64) -> bool
+        requires { i < self.now.shape.lines }
+        ensures { result ≡ holds_name self.now.shape self.now.records.now name i }
+    {
+        let l = line_at(self.records, i);
+        l.name == name && holds(self.shape, i, l)
+    }
+
+    // The lowest of a set's four records that holds the line of this name.
+    fn holder_in(&self, first: usize, name: u64) -> Option<usize>
+        requires { first + set_lines ≤ self.now.shape.lines }
+        ensures { result ≡ lowest (holds_name self.now.shape self.now.records.now name) first set_lines }
+    {
+        for i in named_in(self.records, first, name)..first + SET_LINES {
+            if self.holds_name(i, name) {
+                return Some(i);
+            }
+        }
+        None
+    }
+
+    // The record that holds the line of this name.
+    pub fn holder_of(&self, name: u64) -> Option<usize>
+        ensures { result ≡ holder_of self.now.shape self.now.records.now name }
+    {
+        let s = self.shape;
+        let place = name_place(s, name);
+        let first = first_at(s, place);
+        if s.ways == SET_LINES {
+            return self.holder_in(first, name);
+        }
+        // (with `then_some` the answer waits for all that is compared)
+        if self.holds_name(first, name) {
+            return Some(first);
+        }
+        None
+    }
+
+    // The lowest of a set's four records that holds nothing.
+    fn empty_in(&self, first: usize) -> Option<usize>
+        requires { first + set_lines ≤ self.now.shape.lines }
+        ensures { result ≡ lowest (is_empty self.now.shape self.now.records.now) first set_lines }
+    {
+        for i in first..first + SET_LINES {
+            if !holds(self.shape, i, line_at(self.records, i)) {
+                return Some(i);
+            }
+        }
+        None
+    }
+
+    // The record of a set of four that a new line takes: the lowest that holds nothing, else the lowest whose row has the fewest
+    // ones.
+    fn victim_in(&self, uses: &[[[u8; 4]; 4]], place: usize, first: usize) -> usize
+        requires { (self.now.shape.ways ≡ set_lines) × (place < sets_of self.now.shape) × (first ≡ first_at self.now.shape place) × (length uses.now ≡ matrices_of self.now.shape) }
+        ensures { result ≡ victim_at self.now.shape uses.now self.now.records.now place }
+    {
+        match self.empty_in(first) {
+            Some(i) => i,
+            None => first + sets::fewest_of(uses[place]),
         }
     }
-    None
-}
 
-// The record that holds the line of this name.
-pub fn holder_of(s: Shape, records: &[u64], name: u64) -> Option<usize>
-    requires { Lined s × (length records.now ≡ 2 * s.lines) }
-    ensures { result ≡ holder_of s records.now name }
-{
-    let place = name_place(s, name);
-    let first = first_at(s, place);
-    if s.ways == SET_LINES {
-        return holder_in(s, records, first, name);
-    }
-    // (with `then_some` the answer waits for all that is compared)
-    if holds_name(s, records, first, name) {
-        return Some(first);
-    }
-    None
-}
-
-// The lowest of a set's four records that holds nothing.
-fn empty_in(s: Shape, records: &[u64], first: usize) -> Option<usize>
-    requires { Lined s × (first + set_lines ≤ s.lines) × (length records.now ≡ 2 * s.lines) }
-    ensures { result ≡ lowest (is_empty s records.now) first set_lines }
-{
-    for i in first..first + SET_LINES {
-        if !holds(s, i, line_at(records, i)) {
-            return Some(i);
+    // The record that a new line of this name takes.
+    pub fn victim_of(&self, uses: &[[[u8; 4]; 4]], name: u64) -> usize
+        requires { length uses.now ≡ matrices_of self.now.shape }
+        ensures { result ≡ victim_of self.now.shape uses.now self.now.records.now name }
+    {
+        let s = self.shape;
+        let place = name_place(s, name);
+        let first = first_at(s, place);
+        if s.ways == SET_LINES {
+            return self.victim_in(uses, place, first);
         }
+        first
     }
-    None
-}
 
-// The record of a set of four that a new line takes: the lowest that holds nothing, else the lowest whose row has the fewest
-// ones.
-fn victim_in(s: Shape, records: &[u64], uses: &[[[u8; 4]; 4]], place: usize, first: usize) -> usize
-    requires { Lined s × (s.ways ≡ set_lines) × (place < sets_of s) × (first ≡ first_at s place) × (length records.now ≡ 2 * s.lines) × (length uses.now ≡ matrices_of s) }
-    ensures { result ≡ victim_at s uses.now records.now place }
-{
-    match empty_in(s, records, first) {
-        Some(i) => i,
-        None => first + sets::fewest_of(uses[place]),
+    // The record that a line of this name is to be inserted in: none if it is held. It looks for the set once, and keeps the two
+    // searches in a set of four out of the way of the accesses.
+    pub fn room_for(&self, uses: &[[[u8; 4]; 4]], name: u64) -> Option<usize>
+        requires { length uses.now ≡ matrices_of self.now.shape }
+        ensures { result ≡ room_for self.now.shape uses.now self.now.records.now name }
+    {
+        let s = self.shape;
+        let place = name_place(s, name);
+        let first = first_at(s, place);
+        if s.ways == SET_LINES {
+            return match self.holder_in(first, name) {
+                Some(_) => None,
+                None => Some(self.victim_in(uses, place, first)),
+            };
+        }
+        if self.holds_name(first, name) {
+            return None;
+        }
+        Some(first)
     }
-}
 
-// The record that a new line of this name takes.
-pub fn victim_of(s: Shape, records: &[u64], uses: &[[[u8; 4]; 4]], name: u64) -> usize
-    requires { Lined s × (length records.now ≡ 2 * s.lines) × (length uses.now ≡ matrices_of s) }
-    ensures { result ≡ victim_of s uses.now records.now name }
-{
-    let place = name_place(s, name);
-    let first = first_at(s, place);
-    if s.ways == SET_LINES {
-        return victim_in(s, records, uses, place, first);
+    // Record `i` holds this physical line.
+    fn keeps(&self, i: usize, line: usize) -> bool
+        requires { i < self.now.shape.lines }
+        ensures { result ≡ keeps_line self.now.shape self.now.records.now line i }
+    {
+        let l = line_at(self.records, i);
+        let h = holds(self.shape, i, l);
+        h & (l.physical == line as u64)
     }
-    first
-}
 
-// The record that a line of this name is to be inserted in: none if it is held. It looks for the set once, and keeps the two
-// searches in a set of four out of the way of the accesses.
-pub fn room_for(s: Shape, records: &[u64], uses: &[[[u8; 4]; 4]], name: u64) -> Option<usize>
-    requires { Lined s × (length records.now ≡ 2 * s.lines) × (length uses.now ≡ matrices_of s) }
-    ensures { result ≡ room_for s uses.now records.now name }
-{
-    let place = name_place(s, name);
-    let first = first_at(s, place);
-    if s.ways == SET_LINES {
-        return match holder_in(s, records, first, name) {
-            Some(_) => None,
-            None => Some(victim_in(s, records, uses, place, first)),
-        };
+    // The lowest record that holds this physical line.
+    pub fn keeper_of(&self, line: usize) -> Option<usize>
+        ensures { result ≡ keeper_of self.now.shape self.now.records.now line }
+    {
+        for i in 0..self.shape.lines {
+            if self.keeps(i, line) {
+                return Some(i);
+            }
+        }
+        None
     }
-    if holds_name(s, records, first, name) {
-        return None;
-    }
-    Some(first)
 }
 
 // Notes a use of record `i`.
@@ -280,27 +315,4 @@ pub fn drop_line(records: &mut [u64], i: usize)
     ensures { records.new ≡ put_line records.old i no_line }
 {
     put_line(records, i, Line::none());
-}
-
-// Record `i` holds this physical line.
-fn keeps(s: Shape, records: &[u64], i: usize, line: usize) -> bool
-    requires { Lined s × (2 * i + 2 ≤ length records.now) }
-    ensures { result ≡ keeps_line s records.now line i }
-{
-    let l = line_at(records, i);
-    let h = holds(s, i, l);
-    h & (l.physical == line as u64)
-}
-
-// The lowest record that holds this physical line.
-pub fn keeper_of(s: Shape, records: &[u64], line: usize) -> Option<usize>
-    requires { Lined s × (length records.now ≡ 2 * s.lines) }
-    ensures { result ≡ keeper_of s records.now line }
-{
-    for i in 0..s.lines {
-        if keeps(s, records, i, line) {
-            return Some(i);
-        }
-    }
-    None
 }

@@ -14,6 +14,7 @@ ghost use Rattle.stores.specs.Stores.{store};
 
 use address::PAGE_NAMES;
 use board::{PAGE_LINES, Pending, Refusal, Shape};
+use lines::LineRecords;
 use pages::PageMap;
 
 // Numbers 8 and 13 of load-and-map, or the page's permission.
@@ -54,7 +55,7 @@ fn load_line(
     requires { Sized s records.old cache.old memory.old × (length uses.old ≡ matrices_of s) × (line < page_lines * s.frames) }
     ensures { loaded_with (store records.new cache.new memory.new) uses.new ≡ loaded s name line write (store records.old cache.old memory.old) uses.old }
 {
-    match lines::room_for(s, records, uses, name) {
+    match (LineRecords { shape: s, records }).room_for(uses, name) {
         None => {}
         Some(to) => {
             lines::note_use(s, uses, to);

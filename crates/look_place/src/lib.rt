@@ -10,6 +10,7 @@ ghost use Rattle.look_place.specs.Lends.{place_by, LookPlace};
 ghost use Rattle.machine.specs.Boards.{sets_board};
 
 use board::{LINE_BYTES, Shape};
+use lines::LineRecords;
 
 // What look adds for a place in memory, and what it gives where it is refused.
 const IN_MEMORY: u64 = 9223372036854775808;
@@ -21,7 +22,7 @@ fn place_of_line(s: Shape, records: &[u64], cache: &[u8], memory: &[u8], line: u
     requires { Sized s records.now cache.now memory.now × (line < page_lines * s.frames) }
     ensures { result ≡ place_by line (keeper_of s records.now line) }
 {
-    match lines::keeper_of(s, records, line) {
+    match (LineRecords { shape: s, records }).keeper_of(line) {
         Some(i) => (LINE_BYTES * i) as u64,
         None => IN_MEMORY + (LINE_BYTES * line) as u64,
     }

@@ -3,7 +3,7 @@ use mathlib.Core.Path.{◌∙◌, sym}
 use Rattle.board.proofs.Searches.{first-here, first_more, first-end}
 use Rattle.lines.proofs.Holders.{named_start}
 use borrow.Author.Rules.{rules}
-use Rattle.lines.proofs.holder_in.Goals as goal
+use Rattle.lines.proofs.LineRecords.holder_in.Goals as goal
 
 pub loop-i-init : goal.loop-i-init
 loop-i-init c = search (rules, named_start)

@@ -4,7 +4,7 @@ use native.Mathlib.Nat.{sub-zero}
 use Rattle.board.proofs.Searches.{first-here, first_more, first-end}
 use Rattle.lines.specs.Holds.{keeper_of}
 use borrow.Author.Rules.{rules}
-use Rattle.lines.proofs.keeper_of.Goals as goal
+use Rattle.lines.proofs.LineRecords.keeper_of.Goals as goal
 
 pub loop-i-init : goal.loop-i-init
 unfolding keeper_of

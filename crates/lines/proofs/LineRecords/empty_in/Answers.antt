@@ -3,7 +3,7 @@ use mathlib.Core.Path.{◌∙◌, refl, sym}
 use Rattle.board.proofs.Searches.{first-start, first-end}
 use Rattle.lines.proofs.Holders.{empty-here, empty-more}
 use borrow.Author.Rules.{rules}
-use Rattle.lines.proofs.empty_in.Goals as goal
+use Rattle.lines.proofs.LineRecords.empty_in.Goals as goal
 
 pub loop-i-init : goal.loop-i-init
 loop-i-init c = first-start _ _ _ _ refl

@@ -3,7 +3,7 @@ use Prim.Native.Nat.{◌-◌}
 use mathlib.Core.Path.{◌≡◌}
 use Rattle.board.specs.Searches.{first}
 use Rattle.lines.specs.Holds.{keeps_line, keeper_of}
-use Rattle.lines.proofs.keeper_of.Given as goal
+use Rattle.lines.proofs.LineRecords.keeper_of.Given as goal
 
 abbrev pub invariant-loop-i : goal.invariant-loop-i
-invariant-loop-i l = keeper_of l.s l.records l.line ≡ first (keeps_line l.s l.records l.line) l.i (l.s.lines - l.i)
+invariant-loop-i l = keeper_of l.self.shape l.self.records.now l.line ≡ first (keeps_line l.self.shape l.self.records.now l.line) l.i (l.self.shape.lines - l.i)

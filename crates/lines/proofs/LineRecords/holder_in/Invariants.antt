@@ -4,7 +4,7 @@ use mathlib.Core.Path.{◌≡◌}
 use Rattle.board.specs.Shapes.{set_lines}
 use Rattle.board.specs.Searches.{first as lowest}
 use Rattle.lines.specs.Holds.{holds_name}
-use Rattle.lines.proofs.holder_in.Given as goal
+use Rattle.lines.proofs.LineRecords.holder_in.Given as goal
 
 abbrev pub invariant-loop-i : goal.invariant-loop-i
-invariant-loop-i l = lowest (holds_name l.s l.records l.name) l.first set_lines ≡ lowest (holds_name l.s l.records l.name) l.i (l.i-end - l.i)
+invariant-loop-i l = lowest (holds_name l.self.shape l.self.records.now l.name) l.first set_lines ≡ lowest (holds_name l.self.shape l.self.records.now l.name) l.i (l.i-end - l.i)
