@@ -9,17 +9,16 @@ ghost use Rattle.move_call.specs.Checks.{move_frame};
 ghost use Rattle.machine.specs.Boards.{sets_board};
 
 use board::{Refusal, Shape};
-use pages::PageMap;
 
 // Numbers 2, 8 and 11 of move, or the old page's frame.
-fn move_frame(map: &PageMap, page: u64, new: u64) -> Result<usize, Refusal>
-    ensures { result ≡ move_frame map.now.shape map.now.words.now page new }
+fn move_frame(s: Shape, words: &[u64], page: u64, new: u64) -> Result<usize, Refusal>
+    ensures { result ≡ move_frame s words.now page new }
 {
     if !address::ordinary_page(new) {
         return Err(Refusal::OutOfRange);
     }
-    let f = page_calls::page_frame(map, page)?;
-    if map.mapped_to(new).is_some() {
+    let f = page_calls::page_frame(s, words, page)?;
+    if pages::mapped_to(s, words, new).is_some() {
         return Err(Refusal::AlreadyMapped);
     }
     Ok(f)
@@ -40,7 +39,7 @@ pub fn move_page(
     ensures { (tag : Pending) → Move s (sets_board slots.now words.old records.old cache.now memory.old uses.now tag) page new (call_answer result) (sets_board slots.now words.new records.new cache.now memory.new uses.now tag) }
 {
     s.fit(slots, words, records, cache, memory, uses)?;
-    let f = move_frame(&PageMap { shape: s, words }, page, new)?;
+    let f = move_frame(s, words, page, new)?;
     visits::visit_names(s, records, cache, memory, visits::of_move(page, new));
     let write = pages::word_writes(words[f]);
     words[f] = pages::frame_word(new, write);

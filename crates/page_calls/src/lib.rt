@@ -9,16 +9,15 @@ ghost use Rattle.page_calls.specs.Checks.{page_frame};
 ghost use Rattle.machine.specs.Boards.{sets_board};
 
 use board::{Refusal, Shape};
-use pages::PageMap;
 
 // Numbers 2 and 8 of unmap and protect (and of move, for its old page), or the page's frame.
-pub fn page_frame(map: &PageMap, page: u64) -> Result<usize, Refusal>
-    ensures { result ≡ page_frame map.now.shape map.now.words.now page }
+pub fn page_frame(s: Shape, words: &[u64], page: u64) -> Result<usize, Refusal>
+    ensures { result ≡ page_frame s words.now page }
 {
     if !address::ordinary_page(page) {
         return Err(Refusal::OutOfRange);
     }
-    map.mapped_to(page).ok_or(Refusal::Unmapped)
+    pages::mapped_to(s, words, page).ok_or(Refusal::Unmapped)
 }
 
 // Unmaps a page: writes back and drops its lines, and frees its frame.
@@ -35,7 +34,7 @@ pub fn unmap(
     ensures { (tag : Pending) → Unmap s (sets_board slots.now words.old records.old cache.now memory.old uses.now tag) page (call_answer result) (sets_board slots.now words.new records.new cache.now memory.new uses.now tag) }
 {
     s.fit(slots, words, records, cache, memory, uses)?;
-    let f = page_frame(&PageMap { shape: s, words }, page)?;
+    let f = page_frame(s, words, page)?;
     visits::visit_names(s, records, cache, memory, visits::of_unmap(page));
     words[f] = 0;
     Ok(())
@@ -56,7 +55,7 @@ pub fn protect(
     ensures { (tag : Pending) → Protect s (sets_board slots.now words.old records.old cache.now memory.old uses.now tag) page write (call_answer result) (sets_board slots.now words.new records.new cache.now memory.new uses.now tag) }
 {
     s.fit(slots, words, records, cache, memory, uses)?;
-    let f = page_frame(&PageMap { shape: s, words }, page)?;
+    let f = page_frame(s, words, page)?;
     visits::visit_names(s, records, cache, memory, visits::of_protect(page, write));
     words[f] = pages::frame_word(page, write);
     Ok(())

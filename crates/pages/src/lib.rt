@@ -80,6 +80,16 @@ fn lowest_frame(words: &[u64], u: usize, page: u64) -> Option<usize>
     None
 }
 
+// The frame that a page is mapped to, whatever the number of words.
+pub fn mapped_to(s: Shape, words: &[u64], page: u64) -> Option<usize>
+    ensures { result ≡ mapped_to s words.now page }
+{
+    if ordinary_page(page) {
+        return lowest_frame(words, s.uncached, page);
+    }
+    None
+}
+
 // The page map: the frame words of a board, as many as its frames.
 #[derive(Clone, Copy)]
 pub struct PageMap<'a> {
@@ -94,10 +104,7 @@ impl<'a> PageMap<'a> {
     pub fn mapped_to(&self, page: u64) -> Option<usize>
         ensures { result ≡ mapped_to self.now.shape self.now.words.now page }
     {
-        if ordinary_page(page) {
-            return lowest_frame(self.words, self.shape.uncached, page);
-        }
-        None
+        mapped_to(self.shape, self.words, page)
     }
 
     // A frame from U up whose word is 0.

@@ -1,6 +1,6 @@
 -- What protect and flush all decide before the lines: where nothing refuses, the board is accepted; and the outcome, once the lines were walked.
 use Rattle.std.specs.Prelude.{Result, Ok, Err}
-use Prim.Native.Nat.{ℕ, ◌*◌, ◌<◌, ◌≤◌}
+use Prim.Native.Nat.{ℕ, ◌*◌, ◌<◌}
 use mathlib.Core.Path.{◌≡◌, refl, sym, ◌∙◌, ap}
 use mathlib.Core.Bool.{Bool, true, false, not, cond}
 use mathlib.Core.List.{List, ◌∷◌}
@@ -9,7 +9,7 @@ use lib.Dec.{eqb}
 use lib.ListN.{length, set}
 use Rattle.address.specs.Addresses.{ordinary_page}
 use Rattle.board.specs.Answers.{answer}
-use Rattle.board.specs.Shapes.{fits_shape, max_frames, record_words}
+use Rattle.board.specs.Shapes.{fits_shape, record_words}
 use Rattle.board.specs.declared.Answer.{Answer}
 use Rattle.board.specs.declared.Shape.{Shape}
 use Rattle.board.specs.declared.Refusal.{Refusal}
@@ -63,17 +63,6 @@ module _ (s : Shape) (slots words lines cache memory : ℕ) where
 
   pub lines-placed : (k : Result Unit Refusal) → k ≡ fit fits → k ≡ Ok tt → (i : ℕ) → i < lines → Placed s i cache memory
   lines-placed k e h i l = fit-placed i (passed-fit fits (sym e ∙ h)) l
-
-  -- where it is Ok, there are as many frame words as frames
-  module _ (k : Result Unit Refusal) (e : k ≡ fit fits) (h : k ≡ Ok tt) where
-    accepted : Shaped s slots words (record_words * lines) cache memory 0
-    accepted = shaped s slots words (record_words * lines) cache memory 0 true (sym (passed-fit fits (sym e ∙ h))) refl
-
-    pub accepted-words : words ≡ s.frames
-    accepted-words = accepted.words_are
-
-    pub accepted-frames : s.frames ≤ max_frames
-    accepted-frames = accepted.frames_max
 
 -- ---- what `protect_word` returns
 

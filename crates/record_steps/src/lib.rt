@@ -12,7 +12,6 @@ ghost use Rattle.record_steps.specs.Checks.{Placed, worded, word_changed, flush_
 use address::PAGE_NAMES;
 use board::{RECORD_WORDS, Refusal, Shape};
 use lines::Line;
-use pages::PageMap;
 
 // Number 1 of both, by the lengths of the buffers.
 pub fn fit_lines(
@@ -47,7 +46,7 @@ pub fn protect_word(
     ensures { worded (call_answer result) words.new ≡ word_changed s slots words.old lines cache memory page write }
 {
     fit_lines(s, slots, words.len(), lines, cache, memory)?;
-    let f = page_calls::page_frame(&PageMap { shape: s, words }, page)?;
+    let f = page_calls::page_frame(s, words, page)?;
     words[f] = pages::frame_word(page, write);
     Ok(())
 }

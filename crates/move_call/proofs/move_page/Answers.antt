@@ -2,12 +2,9 @@
 use native.Mathlib.Omega.{arith}
 use Rattle.board.proofs.Refusals.{passed}
 use Rattle.machine.specs.Calls.{move_page}
-use Rattle.machine.proofs.Fits.{fitted-sized, fitted-words, fitted-frames, unfitted}
+use Rattle.machine.proofs.Fits.{fitted-sized, unfitted}
 use Rattle.move_call.proofs.Moves.{move-inside, move-page, move_new, move-refused, move-done}
 use Rattle.move_call.proofs.move_page.Goals as goal
-
-pub invariant_of-move_frame : goal.invariant_of-move_frame
-invariant_of-move_frame c = record { words_are = fitted-words _ _ _ _ _ _ _ _ c.fit.ensures c.in_ok-fit.was; frames_max = fitted-frames _ _ _ _ _ _ _ _ c.fit.ensures c.in_ok-fit.was }
 
 pub of_move-requires : goal.of_move-requires
 of_move-requires c = let e = c.move_frame.ensures in

@@ -1,5 +1,6 @@
 -- `page_frame` asks the rows of unmap and protect in their order.
 use Rattle.page_calls.proofs.Pages.{frame-outside, frame-found}
+use borrow.Author.Rules.{rules}
 use Rattle.page_calls.proofs.page_frame.Goals as goal
 
 pub returns-then-not-ordinary_page : goal.returns-then-not-ordinary_page

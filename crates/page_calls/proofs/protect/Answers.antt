@@ -2,12 +2,9 @@
 use native.Mathlib.Omega.{arith}
 use Rattle.board.proofs.Refusals.{passed}
 use Rattle.machine.specs.Calls.{protect}
-use Rattle.machine.proofs.Fits.{fitted-sized, fitted-words, fitted-frames, unfitted}
+use Rattle.machine.proofs.Fits.{fitted-sized, unfitted}
 use Rattle.page_calls.proofs.Pages.{frame-inside, frame-page, protect-stop, protect-done}
 use Rattle.page_calls.proofs.protect.Goals as goal
-
-pub invariant_of-page_frame : goal.invariant_of-page_frame
-invariant_of-page_frame c = record { words_are = fitted-words _ _ _ _ _ _ _ _ c.fit.ensures c.in_ok-fit.was; frames_max = fitted-frames _ _ _ _ _ _ _ _ c.fit.ensures c.in_ok-fit.was }
 
 pub of_protect-requires : goal.of_protect-requires
 of_protect-requires c = frame-page _ _ _ _ _ c.page_frame.ensures c.in_ok-f.was

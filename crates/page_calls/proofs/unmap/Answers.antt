@@ -2,12 +2,9 @@
 use native.Mathlib.Omega.{arith}
 use Rattle.board.proofs.Refusals.{passed}
 use Rattle.machine.specs.Calls.{unmap}
-use Rattle.machine.proofs.Fits.{fitted-sized, fitted-words, fitted-frames, unfitted}
+use Rattle.machine.proofs.Fits.{fitted-sized, unfitted}
 use Rattle.page_calls.proofs.Pages.{frame-inside, frame-page, unmap-stop, unmap-done}
 use Rattle.page_calls.proofs.unmap.Goals as goal
-
-pub invariant_of-page_frame : goal.invariant_of-page_frame
-invariant_of-page_frame c = record { words_are = fitted-words _ _ _ _ _ _ _ _ c.fit.ensures c.in_ok-fit.was; frames_max = fitted-frames _ _ _ _ _ _ _ _ c.fit.ensures c.in_ok-fit.was }
 
 pub of_unmap-requires : goal.of_unmap-requires
 of_unmap-requires c = frame-page _ _ _ _ _ c.page_frame.ensures c.in_ok-f.was

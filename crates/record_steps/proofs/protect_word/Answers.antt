@@ -2,14 +2,8 @@
 use native.Mathlib.Omega.{arith}
 use Rattle.board.proofs.Refusals.{passed}
 use Rattle.page_calls.proofs.Pages.{frame-inside, frame-page}
-use Rattle.record_steps.proofs.Decided.{accepted-words, accepted-frames, word-unfit, word-stop, word-done}
+use Rattle.record_steps.proofs.Decided.{word-unfit, word-stop, word-done}
 use Rattle.record_steps.proofs.protect_word.Goals as goal
-
-pub invariant_of-page_frame : goal.invariant_of-page_frame
-invariant_of-page_frame c = record {
-  words_are = accepted-words _ _ _ _ _ _ _ c.fit_lines.ensures.0 c.in_ok-fit_lines.was;
-  frames_max = accepted-frames _ _ _ _ _ _ _ c.fit_lines.ensures.0 c.in_ok-fit_lines.was;
-}
 
 pub frame_word-requires : goal.frame_word-requires
 frame_word-requires c = frame-page _ _ _ _ _ c.page_frame.ensures c.in_ok-f.was

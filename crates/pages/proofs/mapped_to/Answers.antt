@@ -1,7 +1,7 @@
 -- `mapped_to` searches for an ordinary page only, whose number fits.
 use Rattle.pages.proofs.Frames.{ordinary-below, mapped-some, mapped-none}
 use borrow.Author.Rules.{rules}
-use Rattle.pages.proofs.PageMap.mapped_to.Goals as goal
+use Rattle.pages.proofs.mapped_to.Goals as goal
 
 pub lowest_frame-requires : goal.lowest_frame-requires
 lowest_frame-requires c = search (rules, ordinary-below)
