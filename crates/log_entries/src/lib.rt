@@ -1,7 +1,7 @@
 // The entries of a log: kinds, their fields, what a field may be at most; an entry number by number (CR 1; CR 9: move).
 #![tactic(auto)]
 
-ghost use Rattle.std.specs.Prelude.{◌≡◌, suc, ◌-◌, ◌^◌, ◌≤◌, ◌<◌, cond, eqb, [], ◌∷◌, get_or, length, map, take};
+ghost use Rattle.std.specs.Prelude.{◌≡◌, suc, ◌-◌, ◌^◌, ◌≤◌, ◌<◌, cond, eqb, ltb, [], ◌∷◌, get_or, length, map, take};
 ghost use Rattle.log_entries.specs.Entries.{none, fields_of, fields_by_kind, most, number_in, entry_words, entry_from, five_of, words_of, six_of};
 ghost use Rattle.log_entries.specs.Enters.{number_of, rule_of, rule_in, IsKindOf, entered_of, EnteredFits};
 
@@ -125,6 +125,13 @@ pub struct Entry {
     pub fields: [u64; MOST_FIELDS],
 }
 
+// A word of an entry, if so many of its words are there.
+fn shown(count: usize, i: usize, word: u64) -> u64
+    ensures { result ≡ cond (ltb i count) word 0 }
+{
+    if i < count { word } else { 0 }
+}
+
 impl Entry {
     // The entry that has these six words.
     pub fn of_words(words: &[u64]) -> Self
@@ -143,9 +150,14 @@ impl Entry {
         ensures { result ≡ six_of (take count (words_of self)) }
     {
         let [first, second, third, fourth, fifth] = self.fields;
-        let mut words = [self.kind, first, second, third, fourth, fifth];
-        words[count..].fill(0);
-        words
+        [
+            shown(count, 0, self.kind),
+            shown(count, 1, first),
+            shown(count, 2, second),
+            shown(count, 3, third),
+            shown(count, 4, fourth),
+            shown(count, 5, fifth),
+        ]
     }
 }
 

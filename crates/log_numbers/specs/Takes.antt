@@ -1,6 +1,6 @@
 -- What code has of a reason and of a byte that is taken: enums, which stand for these numbers.
-use Rattle.std.specs.Prelude.{ℕ, ◌≡◌, ◌<◌, ◌≤◌, Option, None, Some, Result, Ok, Err, MatchResult}
-use Rattle.log_numbers.specs.Reasons.{reason_none, reason_misfit, reason_padded, reason_tenth, reason_cut, reason_kind, reason_field}
+use Rattle.std.specs.Prelude.{ℕ, ◌≡◌, ◌<◌, ◌≤◌, Result, Ok, Err, MatchResult}
+use Rattle.log_numbers.specs.Reasons.{reason_misfit, reason_padded, reason_tenth, reason_cut, reason_kind, reason_field}
 use Rattle.log_numbers.specs.Numbers as numbers
 use Rattle.log_numbers.specs.declared.Reason.{Reason}
 use Rattle.log_numbers.specs.declared.Reason.TheVariants.{Misfit, Padded, Tenth, Cut, Kind, Field}
@@ -19,11 +19,6 @@ number_of Field = reason_field
 -- a number is this reason's, or no reason's, and so a misfit
 abbrev pub IsReasonOf : ℕ → Result Reason Reason → Type 0
 IsReasonOf n r = MatchResult r (λ e. number_of e ≡ n) (λ e. (e ≡ Misfit) × (1 ≤ n → reason_field < n))
-
--- why a log was refused, if it was
-abbrev pub refusal_of : Option Reason → ℕ
-refusal_of None = reason_none
-refusal_of (Some e) = number_of e
 
 -- what a byte made of a number
 abbrev pub taken_of : Result Taken Reason → numbers.Taken

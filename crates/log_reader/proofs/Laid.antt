@@ -12,11 +12,6 @@ use borrow.Author.Tests.{ne_eqb, eqb-false, ltb-true, ltb-false}
 use Rattle.board.specs.Lists.{is_yes, splice}
 use Rattle.board.proofs.Bools.{clash}
 use Rattle.board.proofs.Lists.{length-splice}
-use Rattle.std.specs.Prelude.{Option, None, Some}
-use Rattle.std.specs.Option.{is_some}
-use Rattle.log_numbers.specs.Takes.{number_of, refusal_of}
-use Rattle.log_numbers.specs.declared.Reason.{Reason}
-use Rattle.log_numbers.proofs.Reasons.{number-some}
 use Rattle.log_entries.specs.Entries.{entry_words, fields_of, five_of, words_of, six_of}
 use Rattle.log_entries.specs.declared.Entry.{Entry}
 use Rattle.log_reader.specs.Reading.{State, state, fresh, Step, on, gives, Reading, reading, byte_in, stepped, step_first, room_after, read_into, is_between, reason_of, place_of}
@@ -131,19 +126,6 @@ read_done list bytes given from st e = none ∙ ap (laid_from list given) (sym (
 pub laid-start : (list : List ℕ) (st : State) (bytes : List ℕ) → laid_left list 0 st (drop 0 bytes) ≡ laid_from list 0 (read_into (length list / entry_words) st bytes)
 laid-start list st bytes = let a : length list / entry_words - 0 ≡ length list / entry_words = omega arith in rw a
 
--- a reader that hasn't refused has no number for it
-pub none-is : (x : Option Reason) (t : Bool) → is_some x ≡ not t → t ≡ eqb (refusal_of x) 0
-none-is x true h = go x h
-  where
-    go : (y : Option Reason) → is_some y ≡ false → true ≡ eqb (refusal_of y) 0
-    go None f = refl
-    go (Some e) f = clash true refl f
-none-is x false h = go x h
-  where
-    go : (y : Option Reason) → is_some y ≡ true → false ≡ eqb (refusal_of y) 0
-    go None f = clash false f refl
-    go (Some e) f = sym (ne_eqb (number_of e) 0 (number-some e))
-
 -- the loop's test, part by part
 pub and_first : (t u v : Bool) → (t && u && v) ≡ true → (t ≡ true) × (u ≡ true) × (v ≡ true)
 and_first true true true e = (refl, refl, refl)
@@ -155,9 +137,8 @@ and_first false u v e = clash false e refl
 pub turn-room : (given n₀ : ℕ) (l : List ℕ) → length l ≡ n₀ → ltb given (n₀ / entry_words) ≡ true → given < length l / entry_words
 turn-room given n₀ l e t = rw e (ltb-true given (n₀ / entry_words) t)
 
-pub turn-ends : (t v w : Bool) → v ≡ w → (given n₀ : ℕ) (l : List ℕ) → length l ≡ n₀ → (t && ltb given (n₀ / entry_words) && v) ≡ false
-    → (t && ltb given (length l / entry_words) && w) ≡ false
-turn-ends t v w z given n₀ l e x = rw (e, sym z) x
+pub turn-ends : (t v : Bool) (given n₀ : ℕ) (l : List ℕ) → length l ≡ n₀ → (t && ltb given (n₀ / entry_words) && v) ≡ false → (t && ltb given (length l / entry_words) && v) ≡ false
+turn-ends t v given n₀ l e x = rw e x
 
 -- ---- between entries, and the end of a log
 
@@ -171,26 +152,22 @@ unfolding is_between
 between_is r = rw (count_none r.entry r.count)
 
 module _ (r : Reader) where
-  -- one that has refused
-  refused-yes : (e : Reason) → is_yes (number_of e) ≡ true
-  refused-yes e = rw (ne_eqb (number_of e) 0 (number-some e))
+  pub reason-refused : (ended : Bool) → (r.reason ≡ 0 → ⊥) → r.reason ≡ reason_of (state_of r) ended
+  unfolding reason_of
+  reason-refused ended h = rw (ne_eqb r.reason 0 h)
 
-  pub reason-cut : (ended between : Bool) → between ≡ is_between (state_of r) → r.reason ≡ None → (ended && not between) ≡ true → 4 ≡ reason_of (state_of r) ended
+  pub reason-cut : (ended between : Bool) → between ≡ is_between (state_of r) → (r.reason ≡ 0) → (ended && not between) ≡ true → 4 ≡ reason_of (state_of r) ended
   unfolding reason_of
   reason-cut ended between b z e = rw (sym b, z, e)
 
-  pub reason-refused : (ended : Bool) (e : Reason) → r.reason ≡ Some e → number_of e ≡ reason_of (state_of r) ended
-  unfolding reason_of
-  reason-refused ended e z = rw (z, refused-yes e)
-
-  pub reason-none : (ended between : Bool) → between ≡ is_between (state_of r) → r.reason ≡ None → (ended && not between) ≡ false → 0 ≡ reason_of (state_of r) ended
+  pub reason-none : (ended between : Bool) → between ≡ is_between (state_of r) → (r.reason ≡ 0) → (ended && not between) ≡ false → 0 ≡ reason_of (state_of r) ended
   unfolding reason_of
   reason-none ended between b z e = rw (sym b, z, e)
 
-  pub place-number : (e : Reason) → r.reason ≡ Some e → r.at - r.groups ≡ place_of (state_of r)
+  pub place-number : (r.reason ≡ 0 → ⊥) → r.at - r.groups ≡ place_of (state_of r)
   unfolding place_of
-  place-number e z = rw (z, refused-yes e)
+  place-number h = rw (ne_eqb r.reason 0 h)
 
-  pub place_end : r.reason ≡ None → r.at ≡ place_of (state_of r)
+  pub place_end : r.reason ≡ 0 → r.at ≡ place_of (state_of r)
   unfolding place_of
   place_end z = rw z

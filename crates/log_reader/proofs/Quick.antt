@@ -11,8 +11,6 @@ use borrow.Author.Tests.{ne_eqb, le-leb, eqb-true, leb-true}
 use Rattle.board.specs.Lists.{splice}
 use Rattle.board.proofs.Bools.{clash}
 use Rattle.board.proofs.Lists.{length-splice}
-use Rattle.std.specs.Prelude.{None}
-use Rattle.log_numbers.specs.Takes.{refusal_of}
 use Rattle.log_numbers.specs.Numbers.{group_size, groups_before, number_end, Groups, none, also, value_of}
 use Rattle.log_numbers.proofs.Groups.{take_more, take_last, Last}
 use Rattle.log_entries.specs.Entries.{entry_words, fields_of, is_kind, is_whole, most, most_of, growing, whole, number_in, words_of}
@@ -137,7 +135,7 @@ module _ (piece : List ℕ) (from : ℕ) (u : UserAt) (h : UserHeads piece from 
       (user-value u.process u.store u.width u.address u.value h.value_fits)
       ∙ ap (λ (n : ℕ). reading (user ∷ (read_into (room - 1) (state n 0 0 [] 0) (drop (from + u.count) piece)).entries) (read_into (room - 1) (state n 0 0 [] 0) (drop (from + u.count) piece)).after) end
 
-  pub turned-user : (list list₁ : List ℕ) (given given₁ : ℕ) (r : Reader) → given₁ ≡ given + 1 → Readable r → r.groups ≡ 0 → r.count ≡ 0 → r.reason ≡ None → given < length list / entry_words → u.count ≤ 18
+  pub turned-user : (list list₁ : List ℕ) (given given₁ : ℕ) (r : Reader) → given₁ ≡ given + 1 → Readable r → r.groups ≡ 0 → r.count ≡ 0 → r.reason ≡ 0 → given < length list / entry_words → u.count ≤ 18
       → from + 18 ≤ length piece → list₁ ≡ splice list (entry_words * given) user
       → Turned r.at from (length piece) (from + u.count) (reader (r.at + u.count) r.groups r.sum r.count r.entry r.reason)
       (laid_left list given (state_of r) (drop from piece))
@@ -151,7 +149,7 @@ module _ (piece : List ℕ) (from : ℕ) (u : UserAt) (h : UserHeads piece from 
   }
     where
       -- between entries there is nothing of a number
-      clean : (at : ℕ) → state at r.groups r.sum (take r.count (words_of r.entry)) (refusal_of r.reason) ≡ state at 0 0 [] 0
+      clean : (at : ℕ) → state at r.groups r.sum (take r.count (words_of r.entry)) r.reason ≡ state at 0 0 [] 0
       clean at = let s : r.sum ≡ 0 = none r.groups g readable.small in rw (g, c, z, s)
         where
           none : (k : ℕ) → k ≡ 0 → r.sum < group_size ^ k → r.sum ≡ 0

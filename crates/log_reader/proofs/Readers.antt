@@ -10,9 +10,9 @@ use lib.ListN.{length, take}
 use borrow.Author.Tests.{eqb-false, leb-true, ltb-false}
 use Rattle.board.specs.Lists.{is_yes}
 use Rattle.board.proofs.Bools.{clash}
-use Rattle.std.specs.Prelude.{Option, None, Result, Ok, Err}
+use Rattle.std.specs.Prelude.{Result, Ok, Err}
 use Rattle.log_numbers.specs.Numbers.{group_size, groups_before, Taken, More, Whole, Wrong, take_byte}
-use Rattle.log_numbers.specs.Takes.{number_of, refusal_of, taken_of}
+use Rattle.log_numbers.specs.Takes.{number_of, taken_of}
 use Rattle.log_numbers.specs.declared.Reason.{Reason}
 use Rattle.log_numbers.specs.declared.Taken as declared
 use Rattle.log_numbers.specs.declared.Taken.TheVariants as taken
@@ -28,7 +28,7 @@ use Rattle.log_reader.specs.Readers.{state_of, Readable}
 use Rattle.log_reader.specs.declared.Reader.{Reader}
 
 -- a reader from its parts
-abbrev pub reader : ℕ → ℕ → ℕ → ℕ → Entry → Option Reason → Reader
+abbrev pub reader : ℕ → ℕ → ℕ → ℕ → Entry → ℕ → Reader
 reader at groups sum count entry reason = record { at = at; groups = groups; sum = sum; count = count; entry = entry; reason = reason }
 
 -- ---- a number
@@ -36,7 +36,7 @@ reader at groups sum count entry reason = record { at = at; groups = groups; sum
 module _ (r : Reader) (n : ℕ) (x : Result Entered Reason) (y : Entry)
     (e : (entered_of r.count x ≡ number_in (take r.count (words_of r.entry)) n) × EnteredFits r.count x) where
   -- between numbers a reader has no groups
-  clean : (count : ℕ) → count ≤ length (fields_of y.kind) → Readable (reader (r.at + 1) 0 0 count y None)
+  clean : (count : ℕ) → count ≤ length (fields_of y.kind) → Readable (reader (r.at + 1) 0 0 count y 0)
   clean count h = record { few = omega arith; within = omega arith; small = omega arith; fields = h }
 
   -- there is room for one more number
@@ -47,16 +47,16 @@ module _ (r : Reader) (n : ℕ) (x : Result Entered Reason) (y : Entry)
   number_fits g = omega (arith, grown g, kind-few y.kind (suc r.count) (grown g))
 
   pub number-grows : x ≡ Ok (entered.Growing y)
-      → (on (state_of (reader (r.at + 1) 0 0 (r.count + 1) y None)) ≡ numbered (state_of r) (number_in (take r.count (words_of r.entry)) n))
-      × Readable (reader (r.at + 1) 0 0 (r.count + 1) y None)
+      → (on (state_of (reader (r.at + 1) 0 0 (r.count + 1) y 0)) ≡ numbered (state_of r) (number_in (take r.count (words_of r.entry)) n))
+      × Readable (reader (r.at + 1) 0 0 (r.count + 1) y 0)
   number-grows g = (
     rw (add-one r.at, add-one r.count) (ap (numbered (state_of r)) (sym (ap (entered_of r.count) g) ∙ e.0)),
     clean (r.count + 1) (omega (arith, grown g)),
   )
 
   pub number-ends : x ≡ Ok (entered.Whole y)
-      → (gives (take (1 + length (fields_of y.kind)) (words_of y)) (state_of (reader (r.at + 1) 0 0 0 y None)) ≡ numbered (state_of r) (number_in (take r.count (words_of r.entry)) n))
-      × Readable (reader (r.at + 1) 0 0 0 y None)
+      → (gives (take (1 + length (fields_of y.kind)) (words_of y)) (state_of (reader (r.at + 1) 0 0 0 y 0)) ≡ numbered (state_of r) (number_in (take r.count (words_of r.entry)) n))
+      × Readable (reader (r.at + 1) 0 0 0 y 0)
   number-ends g = (
     rw (add-one r.at, sym full) (ap (numbered (state_of r)) (sym (ap (entered_of r.count) g) ∙ e.0)),
     clean 0 (omega arith),
@@ -99,8 +99,8 @@ more-groups g s b sum h l e = go (eqb g groups_before) (ltb 1 b) (leb group_size
     go false u false true p q k x = clash true refl (sym (ap is_more x))
     go false u false false p q k x = clash true refl (sym (ap is_more x))
 
-module _ (r : Reader) (b : ℕ) (x : Result declared.Taken Reason) (e : taken_of x ≡ take_byte r.groups r.sum b) (ok : r.reason ≡ None) where
-  not-refused : is_yes (refusal_of r.reason) ≡ false
+module _ (r : Reader) (b : ℕ) (x : Result declared.Taken Reason) (e : taken_of x ≡ take_byte r.groups r.sum b) (ok : r.reason ≡ 0) where
+  not-refused : is_yes r.reason ≡ false
   not-refused = rw ok
 
   -- what the byte makes of the number, as the definition has it

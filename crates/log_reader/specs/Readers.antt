@@ -2,7 +2,7 @@
 use Rattle.std.specs.Prelude.{ℕ, ◌+◌, ◌*◌, ◌-◌, ◌/◌, ◌<◌, ◌≤◌, ◌^◌, ◌≡◌, Result, Ok, Err, List, [], ◌∷◌, ◌++◌, length, take}
 use Rattle.board.specs.Lists.{splice}
 use Rattle.log_numbers.specs.Numbers.{group_size, groups_before}
-use Rattle.log_numbers.specs.Takes.{number_of, refusal_of}
+use Rattle.log_numbers.specs.Takes.{number_of}
 use Rattle.log_numbers.specs.declared.Reason.{Reason}
 use Rattle.log_entries.specs.Entries.{fields_of, entry_words, words_of, six_of}
 use Rattle.log_reader.specs.Reading.{State, state, refused, Reading, Step, on, gives, read_into}
@@ -12,7 +12,7 @@ use Rattle.log_reader.specs.declared.Stepped.TheVariants.{On, Gives}
 
 -- where a reader stands: its entry has `count` numbers so far
 abbrev pub state_of : Reader → State
-state_of r = state r.at r.groups r.sum (take r.count (words_of r.entry)) (refusal_of r.reason)
+state_of r = state r.at r.groups r.sum (take r.count (words_of r.entry)) r.reason
 
 -- what is so of any reader that came about by reading
 pub record Readable (r : Reader) : Type 0 where

@@ -1,11 +1,10 @@
 // Reads a log in pieces, cut anywhere (CR 1). A reader is a few words by value.
 #![tactic(auto)]
 
-ghost use Rattle.std.specs.Prelude.{◌≡◌, ◌+◌, ◌*◌, ◌/◌, ◌≤◌, ◌<◌, None, length, take, drop};
+ghost use Rattle.std.specs.Prelude.{◌≡◌, ◌+◌, ◌*◌, ◌/◌, ◌≤◌, ◌<◌, length, take, drop};
 ghost use Rattle.board.specs.Lists.{splice};
 ghost use Rattle.log_entries.specs.Entries.{entry_words, fields_of, number_in, words_of, six_of};
 ghost use Rattle.log_numbers.specs.Numbers.{number_end};
-ghost use Rattle.log_numbers.specs.Takes.{refusal_of};
 ghost use Rattle.log_reader.specs.Reading.{fresh, is_between, numbered, byte_in, read_into, reason_of, place_of};
 ghost use Rattle.log_reader.specs.Readers.{state_of, Readable, step_of, StepFits, laid, laid_from, laid_left, Turned};
 
@@ -14,7 +13,7 @@ use log_numbers::{Reason, Taken};
 use log_quick::USER_BYTES;
 
 // Where a reader stands: the bytes taken; the groups of the number that is being read, and what they are worth; the entry that is
-// being read, and how many of its numbers are there; why the log was refused, if it was.
+// being read, and how many of its numbers are there; why the log was refused: a reason's number, or 0.
 #[derive(Clone, Copy, Debug, PartialEq, Eq)]
 pub struct Reader {
     pub at: u64,
@@ -22,7 +21,7 @@ pub struct Reader {
     pub sum: u64,
     pub count: usize,
     pub entry: Entry,
-    pub reason: Option<Reason>,
+    pub reason: u64,
 }
 
 // A reader after a byte: it goes on, or gives its entry, which is whole, and goes on.
@@ -49,7 +48,7 @@ pub fn fresh_reader() -> Reader
         sum: 0,
         count: 1,
         entry: log_entries::of_kind(Kind::Header as u64),
-        reason: None,
+        reason: 0,
     }
 }
 
@@ -66,7 +65,7 @@ fn after_number(r: Reader, n: u64) -> Result<Stepped, Reason>
             sum: 0,
             count: r.count + 1,
             entry,
-            reason: None,
+            reason: 0,
         })),
         Entered::Whole(entry) => Ok(Stepped::Gives(Reader {
             at,
@@ -74,14 +73,14 @@ fn after_number(r: Reader, n: u64) -> Result<Stepped, Reason>
             sum: 0,
             count: 0,
             entry,
-            reason: None,
+            reason: 0,
         })),
     }
 }
 
 // The reader after a byte, or why that is refused.
 fn after_byte(r: Reader, b: u8) -> Result<Stepped, Reason>
-    requires { Readable r × (r.reason ≡ None) × (r.at + 1 < number_end) }
+    requires { Readable r × (r.reason ≡ 0) × (r.at + 1 < number_end) }
     ensures { (step_of r result ≡ byte_in (state_of r) b) × StepFits r result }
 {
     match log_numbers::take_byte(r.groups, r.sum, b)? {
@@ -130,7 +129,7 @@ struct Turn {
 
 // Takes a byte of a piece.
 fn byte_turn(x: Turn, piece: &[u8], entries: &mut [u64]) -> Turn
-    requires { Readable x.reader × (x.reader.reason ≡ None) × (x.reader.at + length piece.now < number_end + x.from) × (x.from < length piece.now) × (x.given < length entries.old / entry_words) }
+    requires { Readable x.reader × (x.reader.reason ≡ 0) × (x.reader.at + length piece.now < number_end + x.from) × (x.from < length piece.now) × (x.given < length entries.old / entry_words) }
     ensures { Turned x.reader.at x.from (length piece.now) result.from result.reader (laid_left entries.old x.given (state_of x.reader) (drop x.from piece.now)) (laid_left entries.new result.given (state_of result.reader) (drop result.from piece.now)) }
 {
     let from = x.from + 1;
@@ -150,7 +149,7 @@ fn byte_turn(x: Turn, piece: &[u8], entries: &mut [u64]) -> Turn
         }
         Err(reason) => Turn {
             reader: Reader {
-                reason: Some(reason),
+                reason: reason.number(),
                 ..x.reader
             },
             from,
@@ -161,7 +160,7 @@ fn byte_turn(x: Turn, piece: &[u8], entries: &mut [u64]) -> Turn
 
 // Takes a whole user access of a piece, if a plain one comes next; else a byte.
 fn one_turn(x: Turn, piece: &[u8], entries: &mut [u64]) -> Turn
-    requires { Readable x.reader × (x.reader.reason ≡ None) × (x.reader.at + length piece.now < number_end + x.from) × (x.from < length piece.now) × (x.given < length entries.old / entry_words) }
+    requires { Readable x.reader × (x.reader.reason ≡ 0) × (x.reader.at + length piece.now < number_end + x.from) × (x.from < length piece.now) × (x.given < length entries.old / entry_words) }
     ensures { Turned x.reader.at x.from (length piece.now) result.from result.reader (laid_left entries.old x.given (state_of x.reader) (drop x.from piece.now)) (laid_left entries.new result.given (state_of result.reader) (drop result.from piece.now)) }
 {
     let r = x.reader;
@@ -201,7 +200,7 @@ pub fn read(r: Reader, piece: &[u8], entries: &mut [u64]) -> Progress
         from: 0,
         given: 0,
     };
-    while (x.from < piece.len()) & (x.given < room) & x.reader.reason.is_none() {
+    while (x.from < piece.len()) & (x.given < room) & (x.reader.reason == 0) {
         x = one_turn(x, piece, entries);
     }
     Progress {
@@ -211,13 +210,15 @@ pub fn read(r: Reader, piece: &[u8], entries: &mut [u64]) -> Progress
 }
 
 // Why the log is refused, if it has ended here or not.
-pub fn reason_of(r: Reader, ended: bool) -> Option<Reason>
-    ensures { refusal_of result ≡ reason_of (state_of r) ended }
+pub fn reason_of(r: Reader, ended: bool) -> u64
+    ensures { result ≡ reason_of (state_of r) ended }
 {
-    match r.reason {
-        Some(reason) => Some(reason),
-        None if ended & !is_between(r) => Some(Reason::Cut),
-        None => None,
+    if r.reason != 0 {
+        r.reason
+    } else if ended & !is_between(r) {
+        Reason::Cut.number()
+    } else {
+        0
     }
 }
 
@@ -226,8 +227,5 @@ pub fn place_of(r: Reader) -> u64
     requires { Readable r }
     ensures { result ≡ place_of (state_of r) }
 {
-    match r.reason {
-        Some(_) => r.at - r.groups,
-        None => r.at,
-    }
+    if r.reason == 0 { r.at } else { r.at - r.groups }
 }

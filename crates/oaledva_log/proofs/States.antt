@@ -2,16 +2,14 @@
 use Prim.Native.Nat.{ℕ, ◌+◌, ◌*◌, ◌-◌, ◌/◌, ◌%◌, ◌^◌, ◌<◌, ◌≤◌}
 use mathlib.Core.Path.{◌≡◌, ◌∙◌, refl, sym, ap}
 use mathlib.Core.Bool.{Bool, true, false, ◌&&◌, ◌||◌, cond}
-use mathlib.Core.List.{List, [], ◌∷◌, ◌++◌, append-nil}
+use mathlib.Core.List.{List}
 use native.Mathlib.Omega.{arith}
 use lib.Dec.{eqb, ltb, leb}
-use lib.ListN.{length, get_or, take, length-take, drop_of_length-le, get_or-eq_default}
-use lib.Seq.{sets, sets-eq, get_or-take, length-take-le}
-use borrow.Author.Tests.{eq-eqb, eqb-true, ne_eqb, le-leb, lt-leb, lt-ltb, le-ltb, leb-true, leb-false, ltb-true, ltb-false}
+use lib.ListN.{length}
+use borrow.Author.Tests.{eq-eqb, eqb-true, eqb-false, ne_eqb, le-leb, lt-leb, lt-ltb, le-ltb, leb-true, ltb-true}
 use Rattle.board.proofs.Bools.{clash, and_left}
-use Rattle.std.specs.Prelude.{None, Some}
 use Rattle.log_numbers.specs.Numbers.{group_size, groups_before, number_end}
-use Rattle.log_numbers.specs.Takes.{number_of, refusal_of}
+use Rattle.log_numbers.specs.Takes.{number_of}
 use Rattle.log_numbers.specs.declared.Reason.{Reason}
 use Rattle.log_numbers.specs.declared.Reason.TheVariants.{Misfit, Padded, Tenth, Cut, Kind, Field}
 use Rattle.log_entries.specs.Entries.{fields_of, entry_words, entry_from}
@@ -24,29 +22,17 @@ use Rattle.oaledva_log.specs.States.{reader_words, word_at, state_in, words_of_s
 
 -- ---- why a reader may have refused
 
--- it hasn't
-pub refusal-none : (word : ℕ) → word ≡ 0 → (refusal_of None ≡ word) × (is_reason word ≡ true)
+-- for no log that hasn't ended
+pub reason-misfit : (word : ℕ) (e : Reason) → number_of e ≡ word → e ≡ Misfit → false ≡ is_reason word
 unfolding is_reason
-refusal-none word z = (sym z, rw z)
+reason-misfit word e h m = rw (sym h, m)
 
--- no reason has this number
-pub refusal-large : (word : ℕ) → (word ≡ 0 → ⊥) → (1 ≤ word → 6 < word) → is_reason word ≡ false
+pub reason-cut : (word : ℕ) (e : Reason) → number_of e ≡ word → e ≡ Cut → false ≡ is_reason word
 unfolding is_reason
-refusal-large word n h =
-    let l : 6 < word = h (omega (arith, n)) in
-    rw (ne_eqb word 0 n, ne_eqb word 2 (omega arith), ne_eqb word 3 (omega arith), ne_eqb word 5 (omega arith), ne_eqb word 6 (omega arith))
+reason-cut word e h m = rw (sym h, m)
 
--- or a log that hasn't ended isn't refused for it
-pub refusal-misfit : (word : ℕ) (e : Reason) → number_of e ≡ word → e ≡ Misfit → is_reason word ≡ false
-unfolding is_reason
-refusal-misfit word e h m = rw (sym h, m)
-
-pub refusal-cut : (word : ℕ) (e : Reason) → number_of e ≡ word → e ≡ Cut → is_reason word ≡ false
-unfolding is_reason
-refusal-cut word e h m = rw (sym h, m)
-
--- or it is
-known : (e : Reason) → (e ≡ Misfit → ⊥) → (e ≡ Cut → ⊥) → is_reason (number_of e) ≡ true
+-- for one
+known : (e : Reason) → (e ≡ Misfit → ⊥) → (e ≡ Cut → ⊥) → true ≡ is_reason (number_of e)
 unfolding is_reason
 known Misfit m c = absurd (m refl)
 known Padded m c = refl
@@ -55,8 +41,19 @@ known Cut m c = absurd (c refl)
 known Kind m c = refl
 known Field m c = refl
 
-pub refusal-known : (word : ℕ) (e : Reason) → number_of e ≡ word → (e ≡ Misfit → ⊥) → (e ≡ Cut → ⊥) → (refusal_of (Some e) ≡ word) × (is_reason word ≡ true)
-refusal-known word e h m c = (h, rw (sym h) (known e m c))
+pub reason-known : (word : ℕ) (e : Reason) → number_of e ≡ word → (e ≡ Misfit → ⊥) → (e ≡ Cut → ⊥) → true ≡ is_reason word
+reason-known word e h m c = rw (sym h) (known e m c)
+
+-- a number that is no reason's: none at all, or one that no log has
+pub reason-large : (word : ℕ) → (1 ≤ word → 6 < word) → eqb word 0 ≡ is_reason word
+unfolding is_reason
+reason-large word h = go (eqb word 0) refl
+  where
+    go : (t : Bool) → eqb word 0 ≡ t → t ≡ (t || (eqb word 2 || (eqb word 3 || (eqb word 5 || eqb word 6))))
+    go true e = refl
+    go false e =
+        let l : 6 < word = h (omega (arith, eqb-false word 0 e)) in
+        rw (ne_eqb word 2 (omega arith), ne_eqb word 3 (omega arith), ne_eqb word 5 (omega arith), ne_eqb word 6 (omega arith))
 
 -- ---- what a reader may be
 
@@ -90,38 +87,28 @@ may-readable r e =
       fields = leb-true r.count (length (fields_of r.entry.kind)) t.3;
     }
 
--- words that are too few or too many, words that no reader stands by, and one that no reader refuses for
+-- words that are too few or too many, and words that may be no reader's
 module _ (words : List ℕ) where
   pub not-eleven : (length words ≡ reader_words → ⊥) → is_reader words ≡ false
   unfolding is_reader
   not-eleven h = rw (ne_eqb (length words) reader_words h)
 
-  and-false : (t u : Bool) → t ≡ false → (t && u) ≡ false
-  and-false true u h = clash true refl h
-  and-false false u h = refl
-
-  false-and : (t u : Bool) → u ≡ false → (t && u) ≡ false
-  false-and true u h = h
-  false-and false u h = refl
-
-  pub not-standing : length words ≡ reader_words
-      → stands (word_at words 0) (word_at words 1) (word_at words 2) (word_at words 3) (word_at words 4) ≡ false → is_reader words ≡ false
+  pub words-may-not : length words ≡ reader_words
+      → (stands (word_at words 0) (word_at words 1) (word_at words 2) (word_at words 3) (word_at words 4) && is_reason (word_at words 10)) ≡ false
+      → is_reader words ≡ false
   unfolding is_reader may_read
-  not-standing e h = rw (eq-eqb (length words) reader_words e) (and-false _ _ h)
-
-  pub not-refusing : length words ≡ reader_words → is_reason (word_at words 10) ≡ false → is_reader words ≡ false
-  unfolding is_reader may_read
-  not-refusing e h = rw (eq-eqb (length words) reader_words e) (false-and (stands (word_at words 0) (word_at words 1) (word_at words 2) (word_at words 3) (word_at words 4)) _ h)
+  words-may-not e h = rw (eq-eqb (length words) reader_words e) h
 
   -- a reader's words are eleven
   pub eleven : is_reader words ≡ true → length words ≡ reader_words
   unfolding is_reader
   eleven e = eqb-true (length words) reader_words (and_left (eqb (length words) reader_words) (may_read words) e)
 
-  pub standing : length words ≡ reader_words → is_reason (word_at words 10) ≡ true
-      → stands (word_at words 0) (word_at words 1) (word_at words 2) (word_at words 3) (word_at words 4) ≡ true → is_reader words ≡ true
+  pub words-may : length words ≡ reader_words
+      → (stands (word_at words 0) (word_at words 1) (word_at words 2) (word_at words 3) (word_at words 4) && is_reason (word_at words 10)) ≡ true
+      → is_reader words ≡ true
   unfolding is_reader may_read
-  standing e h k = rw (eq-eqb (length words) reader_words e, k) h
+  words-may e h = rw (eq-eqb (length words) reader_words e) h
 
 -- ---- its words
 

@@ -1,8 +1,7 @@
 -- How a log's reader and writer cross to C and Rust: a reader as eleven words, an entry as six.
-use Rattle.std.specs.Prelude.{ℕ, ◌+◌, ◌-◌, ◌/◌, ◌%◌, ◌^◌, ◌≡◌, Bool, true, false, ◌&&◌, ◌||◌, cond, Option, Result, MatchResult, take, List, [], ◌∷◌, length, get_or, eqb, ltb, leb}
+use Rattle.std.specs.Prelude.{ℕ, ◌+◌, ◌-◌, ◌/◌, ◌%◌, ◌^◌, ◌≡◌, Bool, true, false, ◌&&◌, ◌||◌, cond, Result, MatchResult, take, List, [], ◌∷◌, length, get_or, eqb, ltb, leb}
 use Rattle.log_numbers.specs.Numbers.{group_size, groups_before, number_end}
 use Rattle.log_numbers.specs.Reasons.{reason_none, reason_misfit, reason_padded, reason_tenth, reason_kind, reason_field}
-use Rattle.log_numbers.specs.Takes.{refusal_of}
 use Rattle.log_numbers.specs.declared.Reason.{Reason}
 use Rattle.log_numbers.specs.declared.Reason.TheVariants.{Misfit}
 use Rattle.log_entries.specs.Entries.{fields_of, entry_words, entry_from, words_of}
@@ -95,10 +94,6 @@ unfoldable pub log_write : List ℕ → List ℕ → Written
 log_write words bytes = cond (eqb (length words) entry_words) (write_entry (entry_from words 0) bytes) (written (wrote reason_misfit 0) bytes)
 
 -- ---- as code has it
-
--- why a reader has refused, by its word, or a misfit
-abbrev pub IsRefusalIn : ℕ → Result (Option Reason) Reason → Type 0
-IsRefusalIn word r = MatchResult r (λ reason. (refusal_of reason ≡ word) × (is_reason word ≡ true)) (λ e. (e ≡ Misfit) × (is_reason word ≡ false))
 
 -- the reader with these words, or a misfit
 abbrev pub IsReaderIn : List ℕ → Result Reader Reason → Type 0

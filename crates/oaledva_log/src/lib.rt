@@ -3,10 +3,9 @@
 
 ghost use Rattle.std.specs.Prelude.{◌≡◌, ◌+◌, ◌≤◌, length};
 ghost use Rattle.board.specs.Lists.{is_yes};
-ghost use Rattle.log_numbers.specs.Takes.{refusal_of};
 ghost use Rattle.log_reader.specs.Readers.{state_of};
 ghost use Rattle.log_writer.specs.Writing.{written};
-ghost use Rattle.oaledva_log.specs.States.{reader_words, stands, IsRefusalIn, IsReaderIn, words_of_state, read, log_read, log_reason, log_place, wrote_in, log_write};
+ghost use Rattle.oaledva_log.specs.States.{reader_words, is_reason, stands, IsReaderIn, words_of_state, read, log_read, log_reason, log_place, wrote_in, log_write};
 
 use log_entries::{ENTRY_WORDS, Entry};
 use log_numbers::{GROUPS_BEFORE, Reason};
@@ -26,26 +25,13 @@ const LAST_BYTE: u64 = u64::MAX;
 // Where the reason stands in what a call gives that writes.
 const REASON_UNIT: u64 = 4294967296;
 
-// A reason's number, or 0.
-fn number_of(reason: Option<Reason>) -> u64
-    ensures { result ≡ refusal_of reason }
+// Whether a reader may have refused for this: what a log that hasn't ended is refused for, or nothing.
+fn is_reason(reason: u64) -> bool
+    ensures { result ≡ is_reason reason }
 {
-    match reason {
-        Some(why) => why.number(),
-        None => 0,
-    }
-}
-
-// Why a reader has refused, by its word, if a reader may have refused so: what a log that hasn't ended is refused for, or nothing.
-fn reason_in(word: u64) -> Result<Option<Reason>, Reason>
-    ensures { IsRefusalIn word result }
-{
-    if word == 0 {
-        return Ok(None);
-    }
-    match Reason::try_from(word)? {
-        Reason::Misfit | Reason::Cut => Err(Reason::Misfit),
-        reason => Ok(Some(reason)),
+    match Reason::try_from(reason) {
+        Ok(known) => !matches!(known, Reason::Misfit | Reason::Cut),
+        Err(_) => reason == 0,
     }
 }
 
@@ -77,9 +63,9 @@ fn reader_in(words: &[u64]) -> Result<Reader, Reason>
             kind: words[4],
             fields: [words[5], words[6], words[7], words[8], words[9]],
         },
-        reason: reason_in(words[10])?,
+        reason: words[10],
     };
-    if may_read(r) {
+    if may_read(r) & is_reason(r.reason) {
         Ok(r)
     } else {
         Err(Reason::Misfit)
@@ -103,7 +89,7 @@ fn put_reader(r: Reader, words: &mut [u64])
         third,
         fourth,
         fifth,
-        number_of(r.reason),
+        r.reason,
     ];
     words.copy_from_slice(&eleven);
 }
@@ -131,7 +117,7 @@ pub fn oaledva_log_reason(state: &[u64], ended: u32) -> u64
     ensures { result ≡ log_reason state.now (is_yes ended) }
 {
     match reader_in(state) {
-        Ok(r) => number_of(log_reader::reason_of(r, ended != 0)),
+        Ok(r) => log_reader::reason_of(r, ended != 0),
         Err(reason) => reason.number(),
     }
 }

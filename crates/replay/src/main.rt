@@ -9,6 +9,7 @@ ghost use Rattle.replay.specs.Sizes.{Small};
 use address::{Effective, Global};
 use board::{Answer, LINE_BYTES, PAGE_BYTES, PROCESS_SLOTS, Pending, RECORD_WORDS, Shape};
 use log_entries::{ENTRY_WORDS, Entry, Kind, MOST_FIELDS, WORD_MOST};
+use log_numbers::Reason;
 use log_reader::Reader;
 use std::env::FillError;
 use std::fmt::InlineText;
@@ -341,7 +342,7 @@ fn read_piece(r: Reader, piece: &[u8], entries: &mut [u64; ENTRIES]) -> Input
         return Input {
             reader: x.reader,
             given: x.given,
-            more: !piece.is_empty() && x.reader.reason.is_none(),
+            more: !piece.is_empty() && x.reader.reason == 0,
         };
     }
     Input {
@@ -404,7 +405,7 @@ fn say_refused(rt: &impl Eprint, place: u64, calls: u64, why: impl fmt::Display 
 fn judge(rt: &impl Eprint, r: Reader, calls: u64)
     requires { Readable r }
 {
-    if let Some(reason) = log_reader::reason_of(r, true) {
+    if let Ok(reason) = Reason::try_from(log_reader::reason_of(r, true)) {
         say_refused(rt, log_reader::place_of(r), calls, reason);
     }
 }

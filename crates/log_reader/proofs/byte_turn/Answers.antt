@@ -15,5 +15,5 @@ returns-in-Ok-Gives c = let x = c.args.x in let s = rw c.in-Ok-Gives.field-0-is 
 
 pub returns-in-Err : goal.returns-in-Err
 returns-in-Err c = let x = c.args.x in let h = c.requires.0 in
-    turned _ _ x.given _ x.reader _ c.args.piece.now x.from _ h c.requires.3 c.requires.4 c.in-Err.ensures.0 refl
+    turned _ _ x.given _ x.reader _ c.args.piece.now x.from _ h c.requires.3 c.requires.4 c.in-Err.ensures.0 (rw c.number.ensures refl)
     (record { few = h.few; within = h.within; small = h.small; fields = h.fields }) (search rules) refl refl

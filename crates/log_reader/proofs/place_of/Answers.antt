@@ -2,8 +2,8 @@
 use Rattle.log_reader.proofs.Laid.{place-number, place_end}
 use Rattle.log_reader.proofs.place_of.Goals as goal
 
-pub returns-in-Some : goal.returns-in-Some
-returns-in-Some c = place-number c.args.r _ c.in-Some.is
+pub returns-then-r-eq0 : goal.returns-then-r-eq0
+returns-then-r-eq0 c = place_end c.args.r c.if-r-eq0.true
 
-pub returns-in-None : goal.returns-in-None
-returns-in-None c = place_end c.args.r c.in-None.is
+pub returns-else-r-eq0 : goal.returns-else-r-eq0
+returns-else-r-eq0 c = place-number c.args.r c.if-r-eq0.false

@@ -1,12 +1,14 @@
 -- `reason_of`: refused already, or cut, or neither.
+use mathlib.Core.Path.{◌∙◌}
+use native.Mathlib.Omega.{arith}
 use Rattle.log_reader.proofs.Laid.{reason-refused, reason-cut, reason-none}
 use Rattle.log_reader.proofs.reason_of.Goals as goal
 
-pub returns-in-Some : goal.returns-in-Some
-returns-in-Some c = reason-refused c.args.r c.args.ended _ c.in-Some.is
+pub returns-then-r-ne0 : goal.returns-then-r-ne0
+returns-then-r-ne0 c = omega (arith, reason-refused c.args.r c.args.ended c.if-r-ne0.true)
 
-pub returns-in-None : goal.returns-in-None
-returns-in-None c = reason-cut c.args.r c.args.ended _ c.is_between.ensures c.in-None.is c.if-ended-is_between.true
+pub returns-then-ended-is_between : goal.returns-then-ended-is_between
+returns-then-ended-is_between c = let a = c.args in c.number.ensures ∙ reason-cut a.r a.ended _ c.is_between.ensures c.if-r-ne0.false c.if-ended-is_between.true
 
-pub returns-in-None-2 : goal.returns-in-None-2
-returns-in-None-2 c = reason-none c.args.r c.args.ended _ c.is_between.ensures c.in-None.is c.if-ended-is_between.false
+pub returns-else-ended-is_between : goal.returns-else-ended-is_between
+returns-else-ended-is_between c = let a = c.args in reason-none a.r a.ended _ c.is_between.ensures c.if-r-ne0.false c.if-ended-is_between.false

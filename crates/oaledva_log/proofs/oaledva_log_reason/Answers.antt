@@ -7,7 +7,7 @@ use Rattle.oaledva_log.proofs.oaledva_log_reason.Goals as goal
 
 pub returns-in-Ok : goal.returns-in-Ok
 returns-in-Ok c = let h = c.in-Ok.ensures in
-    reason-told c.args.state.now c.in-Ok.r h.0 h.1 (is_yes c.args.ended) _ (c.number_of.ensures ∙ c.reason_of.ensures)
+    reason-told c.args.state.now c.in-Ok.r h.0 h.1 (is_yes c.args.ended) _ c.reason_of.ensures
 
 pub returns-in-Err : goal.returns-in-Err
 returns-in-Err c = let h = c.in-Err.ensures in c.number.ensures ∙ ap number_of h.0 ∙ reason-wild c.args.state.now (is_yes c.args.ended) h.1
