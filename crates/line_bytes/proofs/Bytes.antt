@@ -103,21 +103,22 @@ module _ (bytes : List ℕ) (at width value : ℕ) where
 
   -- what lent bytes leave where a number's bytes were copied into them
   module _ (line : List ℕ) where
-    pub stored-two : width ≡ 2 → at + 2 ≤ length bytes → line ≡ (value % 65536 / 256 % 256 ∷ value % 65536 % 256 ∷ [])
+    -- of the number whose bytes they are only its last two, or four, bytes count
+    pub stored-two : (x : ℕ) → width ≡ 2 → at + 2 ≤ length bytes → line ≡ (x / 256 % 256 ∷ x % 256 ∷ []) → x % 65536 ≡ value % 65536
         → take at bytes ++ (line ++ drop (at + 2 - at) (drop at bytes)) ≡ stored bytes at width value
     unfolding stored digits
-    stored-two w h e =
-        let a : value % 65536 / 256 % 256 ≡ value / 256 % 256 = omega arith in
-        let b : value % 65536 % 256 ≡ value % 256 = omega arith in
+    stored-two x w h e same =
+        let a : x / 256 % 256 ≡ value / 256 % 256 = omega (arith, same) in
+        let b : x % 256 ≡ value % 256 = omega (arith, same) in
         rw (w, e, a, b, div-one) (splice-lent bytes at 2 (value / 256 % 256 ∷ value % 256 ∷ []) refl h)
 
-    pub stored-four : Width width → (width ≡ 1 → ⊥) → (width ≡ 2 → ⊥) → at + width ≤ length bytes
-        → line ≡ (value / 16777216 % 256 ∷ value / 65536 % 256 ∷ value / 256 % 256 ∷ value % 256 ∷ [])
+    pub stored-four : (x : ℕ) → Width width → (width ≡ 1 → ⊥) → (width ≡ 2 → ⊥) → at + width ≤ length bytes
+        → line ≡ (x / 16777216 % 256 ∷ x / 65536 % 256 ∷ x / 256 % 256 ∷ x % 256 ∷ []) → x ≡ value
         → take at bytes ++ (line ++ drop (at + 4 - at) (drop at bytes)) ≡ stored bytes at width value
     unfolding stored digits
-    stored-four g n m h e =
+    stored-four x g n m h e same =
         let w = width_four width g n m in
-        rw (w, e, div-one) (splice-lent bytes at 4 (value / 16777216 % 256 ∷ value / 65536 % 256 ∷ value / 256 % 256 ∷ value % 256 ∷ []) refl (omega arith))
+        rw (w, e, same, div-one) (splice-lent bytes at 4 (value / 16777216 % 256 ∷ value / 65536 % 256 ∷ value / 256 % 256 ∷ value % 256 ∷ []) refl (omega arith))
 
   pub length-stored : length (stored bytes at width value) ≡ length bytes
   unfolding stored
