@@ -384,8 +384,8 @@ fn an_entry_of_a_log_and_a_reader_are_so_many_words() {
     );
 }
 
-/// The marks have the same names in all three, but for 0, which is no mark in the source; the refusals in the header and the crate, and
-/// in the source the same numbers.
+/// The marks have the same names in all three, but for 0, which the source calls no mark; the refusals in the header and the crate, and in
+/// the source the same numbers.
 #[test]
 fn numbers_with_names_are_the_same() {
     let [refusals, marks, ..] = &enumerated(&text("include/oaledva.h"))[..] else { panic!("not two enumerations") };
@@ -394,7 +394,7 @@ fn numbers_with_names_are_the_same() {
     assert_eq!(marks, &numbered(&text("rust/src/mark.rs")));
     let source = text("crates/board/src/lib.rt");
     let mut named = marks.clone();
-    assert_eq!(named.remove("NO_ACCESS"), Some(0));
+    assert_eq!(named.remove("NO_ACCESS"), constants(&source).get("NO_MARK").copied());
     assert_eq!(named, enum_of(&source, "Mark"));
     let by_number = |numbers: &Numbers| numbers.values().copied().collect::<std::collections::BTreeSet<_>>();
     assert_eq!(by_number(refusals), by_number(&enum_of(&source, "Refusal")));
