@@ -1,7 +1,7 @@
 // The entries of a log: kinds, their fields, what a field may be at most; an entry number by number (CR 1; CR 9: move).
 #![tactic(auto)]
 
-ghost use Rattle.std.specs.Prelude.{◌≡◌, suc, ◌-◌, ◌^◌, ◌≤◌, ◌<◌, cond, eqb, ltb, [], ◌∷◌, get_or, length, map, take};
+ghost use Rattle.std.specs.Prelude.{◌≡◌, suc, ◌-◌, ◌^◌, ◌≤◌, ◌<◌, cond, eqb, ltb, [], ◌∷◌, get_or, length, map, set, take};
 ghost use Rattle.log_entries.specs.Entries.{none, fields_of, fields_by_kind, most, number_in, entry_words, entry_from, five_of, words_of, six_of};
 ghost use Rattle.log_entries.specs.Enters.{number_of, rule_of, rule_in, IsKindOf, entered_of, EnteredFits};
 
@@ -178,14 +178,21 @@ pub fn of_kind(kind: u64) -> Entry
     }
 }
 
-// How many fields a kind has; none if it isn't known.
+// How many kinds there are.
+const KINDS: u64 = 13;
+
+// How many fields each kind has.
+const COUNTS: [usize; 13] = [4, 5, 4, 4, 2, 3, 1, 2, 0, 1, 1, 0, 2];
+
+// How many fields a kind has; none if it isn't known. By a table and not by `Kind::fields`, whose slices the reader would look up for
+// each number: its speed rests on it.
 pub fn fields_of(kind: u64) -> usize
     ensures { result ≡ length (fields_of kind) }
 {
-    match Kind::try_from(kind) {
-        Ok(known) => known.fields().len(),
-        Err(_) => 0,
+    if kind < KINDS {
+        return COUNTS[kind as usize];
     }
+    0
 }
 
 // The most that an access's value may be.
@@ -229,12 +236,29 @@ fn enter_kind(n: u64) -> Result<Entered, Reason>
         Kind::Header => Err(Reason::Kind),
         kind => {
             let e = of_kind(n);
-            if kind.fields().is_empty() {
+            if fields_of(kind.number()) == 0 {
                 return Ok(Entered::Whole(e));
             }
             Ok(Entered::Growing(e))
         }
     }
+}
+
+// Fields with `n` as number `i`. Each at a place of its own and not by its index: so the reader keeps them in registers, and its speed
+// rests on it.
+fn with_field(fields: [u64; MOST_FIELDS], i: usize, n: u64) -> [u64; MOST_FIELDS]
+    requires { (1 ≤ i) × (i ≤ 5) }
+    ensures { result ≡ set fields (i - 1) n }
+{
+    let mut x = fields;
+    match i {
+        1 => x[0] = n,
+        2 => x[1] = n,
+        3 => x[2] = n,
+        4 => x[3] = n,
+        _ => x[4] = n,
+    }
+    x
 }
 
 // A number after `count` numbers of an entry. It may be refused: why.
@@ -248,8 +272,10 @@ pub fn enter(e: Entry, count: usize, n: u64) -> Result<Entered, Reason>
     if most_of(e, count) < n {
         return Err(Reason::Field);
     }
-    let mut x = e;
-    x.fields[count - 1] = n;
+    let x = Entry {
+        kind: e.kind,
+        fields: with_field(e.fields, count, n),
+    };
     if count == fields_of(e.kind) {
         return Ok(Entered::Whole(x));
     }

@@ -40,6 +40,7 @@ fn ended(last: u64, value: u64, count: usize) -> Option<Number>
 }
 
 // The number of at most five bytes from `from` on, if it is plain. Read byte after byte and not by a loop: the reader's speed rests on it.
+#[inline(always)]
 fn number_at(piece: &[u8], from: usize) -> Option<Number>
     requires { from + 5 ≤ length piece.now }
     ensures { NumberAt piece.now from result }

@@ -6,7 +6,7 @@ use mathlib.Core.List.{List, [], ◌∷◌}
 use native.Mathlib.Numerals.{add-one}
 use native.Mathlib.Omega.{arith}
 use lib.Dec.{eqb, ltb, eqb-suc-zero}
-use lib.ListN.{length, get_or, take, drop, drop_of_length-le}
+use lib.ListN.{length, get_or, set, take, drop, drop_of_length-le}
 use lib.Seq.{drop-cons}
 use borrow.Author.Tests.{ne_eqb, eqb-false, ltb-true, ltb-false}
 use Rattle.board.specs.Lists.{is_yes, splice}
@@ -17,6 +17,31 @@ use Rattle.log_entries.specs.declared.Entry.{Entry}
 use Rattle.log_reader.specs.Reading.{State, state, fresh, Step, on, gives, Reading, reading, byte_in, stepped, step_first, room_after, read_into, is_between, reason_of, place_of}
 use Rattle.log_reader.specs.Readers.{state_of, Readable, Turned, sixes, laid, laid_from, laid_left, put_step, given_after}
 use Rattle.log_reader.specs.declared.Reader.{Reader}
+
+-- ---- six words
+
+-- six words put one after another
+pub six-put : (list : List ℕ) (at a b c d e f : ℕ)
+    → set (set (set (set (set (set list at a) (at + 1) b) (at + 2) c) (at + 3) d) (at + 4) e) (at + 5) f ≡ splice list at (a ∷ b ∷ c ∷ d ∷ e ∷ f ∷ [])
+unfolding splice
+six-put list at a b c d e f =
+    let a₁ : at + 1 ≡ suc at = omega arith in
+    let a₂ : at + 2 ≡ suc (suc at) = omega arith in
+    let a₃ : at + 3 ≡ suc (suc (suc at)) = omega arith in
+    let a₄ : at + 4 ≡ suc (suc (suc (suc at))) = omega arith in
+    let a₅ : at + 5 ≡ suc (suc (suc (suc (suc at)))) = omega arith in
+    rw (a₁, a₂, a₃, a₄, a₅)
+
+-- six words are all of a list of six
+pub six-all : (l : List ℕ) → length l ≡ 6 → six_of l ≡ l
+six-all (a ∷ b ∷ c ∷ d ∷ e ∷ f ∷ []) h = refl
+six-all [] h = absurd (omega (arith, h))
+six-all (a ∷ []) h = absurd (omega (arith, h))
+six-all (a ∷ b ∷ []) h = absurd (omega (arith, h))
+six-all (a ∷ b ∷ c ∷ []) h = absurd (omega (arith, h))
+six-all (a ∷ b ∷ c ∷ d ∷ []) h = absurd (omega (arith, h))
+six-all (a ∷ b ∷ c ∷ d ∷ e ∷ []) h = absurd (omega (arith, h))
+six-all (a ∷ b ∷ c ∷ d ∷ e ∷ f ∷ g ∷ l) h = absurd (omega (arith, h))
 
 -- ---- reading on
 

@@ -15,11 +15,8 @@ returns-then-count-eq0 c = let a = c.args in no-numbers a.e a.count a.n c.enter_
 pub most_of-requires : goal.most_of-requires
 most_of-requires c = let p : 1 ≤ c.args.count = omega (arith, c.if-count-eq0.false) in (kind-has _ _ p c.requires, p, kind-few _ _ c.requires)
 
-pub offset_bounds-x-count : goal.offset_bounds-x-count
-offset_bounds-x-count c = omega (arith, kind-few _ _ c.requires)
-
-pub bounds-x-count : goal.bounds-x-count
-bounds-x-count c = omega (arith, kind-few _ _ c.requires)
+pub with_field-requires : goal.with_field-requires
+with_field-requires c = (omega (arith, c.if-count-eq0.false), kind-few _ _ c.requires)
 
 pub returns-then-most_of-n : goal.returns-then-most_of-n
 returns-then-most_of-n c = let p : 1 ≤ c.args.count = omega (arith, c.if-count-eq0.false) in
@@ -28,7 +25,7 @@ returns-then-most_of-n c = let p : 1 ≤ c.args.count = omega (arith, c.if-count
 pub returns-then-count-fields_of : goal.returns-then-count-fields_of
 returns-then-count-fields_of c = let p : 1 ≤ c.args.count = omega (arith, c.if-count-eq0.false) in
     let q = kind-few _ _ c.requires in
-    let five : length c.args.e.fields ≡ 5 = search rules in (
+    let five : length c.args.e.fields ≡ 5 = search rules in rw c.with_field.ensures (
       field-whole c.args.e c.args.count _ _ p q c.most_of.ensures c.if-most_of-n.false (with_field c.args.e c.args.count c.args.n) (field_put c.args.e c.args.n c.args.count p q five) _
           c.fields_of.ensures c.if-count-fields_of.true,
       c.if-count-fields_of.true ∙ c.fields_of.ensures,
@@ -37,7 +34,7 @@ returns-then-count-fields_of c = let p : 1 ≤ c.args.count = omega (arith, c.if
 pub returns : goal.returns
 returns c = let p : 1 ≤ c.args.count = omega (arith, c.if-count-eq0.false) in
     let q = kind-few _ _ c.requires in
-    let five : length c.args.e.fields ≡ 5 = search rules in (
+    let five : length c.args.e.fields ≡ 5 = search rules in rw c.with_field.ensures (
       field-growing c.args.e c.args.count _ _ p q c.most_of.ensures c.if-most_of-n.false (with_field c.args.e c.args.count c.args.n) (field_put c.args.e c.args.n c.args.count p q five) _
           c.fields_of.ensures c.if-count-fields_of.false,
       omega (arith, c.if-count-fields_of.false, c.fields_of.ensures, c.requires),

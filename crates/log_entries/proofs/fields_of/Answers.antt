@@ -1,7 +1,9 @@
--- `fields_of`: a kind that isn't known has no fields.
-use Rattle.std.proofs.Common.{ap, length}
-use Rattle.log_entries.proofs.Tables.{fields_past}
+-- `fields_of` reads the table.
+use Rattle.log_entries.proofs.Tables.{counts-right, counts_past}
 use Rattle.log_entries.proofs.fields_of.Goals as goal
 
-pub returns-in-Err : goal.returns-in-Err
-returns-in-Err c = ap length (fields_past c.args.kind c.in-Err.ensures.1)
+pub returns-then-kind-lt-KINDS : goal.returns-then-kind-lt-KINDS
+returns-then-kind-lt-KINDS c = counts-right c.args.kind
+
+pub returns : goal.returns
+returns c = counts_past _ c.if-kind-lt-KINDS.false
