@@ -5,12 +5,14 @@ use mathlib.Core.Bool.{Bool, true, false, cond}
 use mathlib.Core.List.{List, [], ◌∷◌}
 use native.Mathlib.Nat.{lt_of_not-le}
 use native.Mathlib.Omega.{arith}
-use lib.Dec.{eqb, ltb, leb}
+use lib.Dec.{eqb, leb}
 use lib.ListN.{length, get_or, take, get_or-map, get_or-eq_default}
 use lib.Seq.{get_or-take, length-take-le}
-use borrow.Author.Tests.{leb-true, leb-false, ltb-true}
+use borrow.Author.Tests.{eqb-true, leb-true, leb-false, ne_eqb}
 use Rattle.board.proofs.Tables.{every_below, every-below}
+use Rattle.board.proofs.Bools.{clash}
 use Rattle.log_entries.specs.Entries.{Field, any_number, flag, word, value, none, fields_by_kind, fields_of, most_of, most, five_of}
+use Rattle.log_entries.specs.Enters.{code_of}
 use Rattle.log_entries.specs.declared.Entry.{Entry}
 
 -- ---- how many fields a kind has
@@ -59,31 +61,50 @@ kind-few k i q = omega (arith, q, fields-few k)
 
 -- ---- what a field may be
 
--- a value stands after the field that says load or store
-flag_before : Field → ℕ → Bool
-flag_before (value j) i = ltb j i
-flag_before any_number i = true
-flag_before flag i = true
-flag_before word i = true
-flag_before none i = true
+abbrev codes : List ℕ
+codes =
+    1 ∷ 1 ∷ 1 ∷ 1 ∷ 0 ∷ 1 ∷ 2 ∷ 3 ∷ 3 ∷ 5 ∷ 2 ∷ 3 ∷ 1 ∷ 4 ∷ 0 ∷ 1 ∷ 1 ∷ 1 ∷ 2 ∷ 0 ∷ 1 ∷ 1 ∷ 0 ∷ 0 ∷ 0 ∷ 1 ∷ 1 ∷ 2 ∷ 0 ∷ 0
+    ∷ 1 ∷ 0 ∷ 0 ∷ 0 ∷ 0 ∷ 1 ∷ 2 ∷ 0 ∷ 0 ∷ 0 ∷ 0 ∷ 0 ∷ 0 ∷ 0 ∷ 0 ∷ 1 ∷ 0 ∷ 0 ∷ 0 ∷ 0 ∷ 1 ∷ 0 ∷ 0 ∷ 0 ∷ 0 ∷ 0 ∷ 0 ∷ 0 ∷ 0 ∷ 0 ∷ 1 ∷ 1 ∷ 0 ∷ 0 ∷ 0 ∷ []
 
-flag_at : ℕ → ℕ → Bool
-flag_at k i = flag_before (get_or (fields_of k) i none) i
+-- with a value's code, the flag's field is behind
+abbrev value_after : ℕ → ℕ → Bool
+value_after c i = cond (eqb c 4) (leb 1 i) (cond (eqb c 5) (leb 2 i) (leb c 5))
 
-flags-before : every_below kinds (λ k. every_below 5 (flag_at k)) ≡ true
-unfolding every_below flag_at flag_before fields_of
+code_right : ℕ → ℕ → Bool
+code_right k i = eqb (get_or codes (5 * k + i) 0) (code_of (get_or (fields_of k) i none))
+
+codes-right : every_below kinds (λ k. every_below 5 (code_right k)) ≡ true
+unfolding every_below code_right fields_of code_of
+codes-right = refl
+
+pub code_at : (k i : ℕ) → k < kinds → 1 ≤ i → i ≤ 5 → get_or codes (5 * k + i - 1) 0 ≡ code_of (get_or (fields_of k) (i - 1) none)
+unfolding code_right
+code_at k i h p q =
+    let r = every-below 5 (code_right k) (every-below kinds (λ x. every_below 5 (code_right x)) codes-right k h) (i - 1) (omega arith) in
+    let d : 5 * k + i - 1 ≡ 5 * k + (i - 1) = omega arith in
+    rw d (eqb-true _ _ r)
+
+-- a value stands after the field that says load or store, which is the first or the second
+flag_before : ℕ → ℕ → Bool
+flag_before k i = value_after (code_of (get_or (fields_of k) i none)) i
+
+flags-before : every_below kinds (λ k. every_below 5 (flag_before k)) ≡ true
+unfolding every_below flag_before fields_of code_of
 flags-before = refl
 
--- the most by a rule, as the code asks
+-- the most by a code, as the code asks
 abbrev pub most_value : ℕ → ℕ
 most_value store = cond (eqb store 0) 0 (2 ^ 32 - 1)
 
-abbrev pub by_rule : Entry → Field → ℕ
-by_rule e any_number = 2 ^ 64 - 1
-by_rule e flag = 1
-by_rule e word = 2 ^ 32 - 1
-by_rule e (value j) = most_value (get_or (five_of e) j 0)
-by_rule e none = 0
+abbrev pub by_code : Entry → ℕ → ℕ
+by_code e c =
+    cond (eqb c 1) (2 ^ 64 - 1) (cond (eqb c 2) 1 (cond (eqb c 3) (2 ^ 32 - 1) (cond (eqb c 4) (most_value (get_or e.fields 0 0)) (cond (eqb c 5) (most_value (get_or e.fields 1 0)) 0))))
+
+pub by_code_lem : (e : Entry) (n c : ℕ) → c ≡ n → by_code e n ≡ by_code e c
+by_code_lem e n c x = ap (by_code e) (sym x)
+
+pub by-none : (e : Entry) (c : ℕ) → (c ≡ 1 → ⊥) → (c ≡ 2 → ⊥) → (c ≡ 3 → ⊥) → (c ≡ 4 → ⊥) → (c ≡ 5 → ⊥) → 0 ≡ by_code e c
+by-none e c n₁ n₂ n₃ n₄ n₅ = rw (ne_eqb c 1 n₁, ne_eqb c 2 n₂, ne_eqb c 3 n₃, ne_eqb c 4 n₄, ne_eqb c 5 n₅)
 
 -- the kind and field number that code asks
 module _ (e : Entry) (i : ℕ) (h : e.kind < kinds) (p : 1 ≤ i) (q : i ≤ 5) where
@@ -96,20 +117,22 @@ module _ (e : Entry) (i : ℕ) (h : e.kind < kinds) (p : 1 ≤ i) (q : i ≤ 5) 
   five : length before ≡ i - 1
   five = length-take-le (i - 1) (five_of e) (omega arith)
 
-  flag-before : (f : Field) → field ≡ f → flag_before f (i - 1) ≡ true
-  unfolding flag_at
+  flag-before : (f : Field) → field ≡ f → value_after (code_of f) (i - 1) ≡ true
+  unfolding flag_before
   flag-before f g =
-      sym (ap (λ (x : Field). flag_before x (i - 1)) g)
-      ∙ every-below 5 (flag_at e.kind) (every-below kinds (λ x. every_below 5 (flag_at x)) flags-before e.kind h) (i - 1) (omega arith)
+      sym (ap (λ (x : Field). value_after (code_of x) (i - 1)) g)
+      ∙ every-below 5 (flag_before e.kind) (every-below kinds (λ x. every_below 5 (flag_before x)) flags-before e.kind h) (i - 1) (omega arith)
 
-  ruled : (f : Field) → field ≡ f → by_rule e f ≡ most_of before f
-  unfolding most_of flag_before
-  ruled any_number g = refl
-  ruled flag g = refl
-  ruled word g = refl
-  ruled none g = refl
-  ruled (value j) g = ap most_value (sym (get_or-take (i - 1) (five_of e) j 0 (ltb-true j (i - 1) (flag-before (value j) g))))
+  coded : (f : Field) → field ≡ f → by_code e (code_of f) ≡ most_of before f
+  unfolding code_of most_of
+  coded any_number g = refl
+  coded flag g = refl
+  coded word g = refl
+  coded none g = refl
+  coded (value zero) g = ap most_value (sym (get_or-take (i - 1) (five_of e) 0 0 (leb-true 1 (i - 1) (flag-before (value zero) g))))
+  coded (value (suc zero)) g = ap most_value (sym (get_or-take (i - 1) (five_of e) 1 0 (leb-true 2 (i - 1) (flag-before (value (suc zero)) g))))
+  coded (value (suc (suc j))) g = clash false (flag-before (value (suc (suc j))) g) refl
 
-  pub most-ruled : (f : Field) → f ≡ field → by_rule e f ≡ most e.kind before
+  pub most-coded : (c : ℕ) → c ≡ code_of field → by_code e c ≡ most e.kind before
   unfolding most
-  most-ruled f x = rw five (ap (by_rule e) x ∙ ruled field refl)
+  most-coded c x = rw five (ap (by_code e) x ∙ coded field refl)

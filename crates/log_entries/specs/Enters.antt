@@ -1,5 +1,5 @@
 -- What code has of an entry: six words, of which the first so many are there; and enums for kinds and for what a field may be.
-use Rattle.std.specs.Prelude.{ℕ, suc, ◌≤◌, ◌≡◌, Option, Some, None, Result, Ok, Err, MatchResult, length, take}
+use Rattle.std.specs.Prelude.{ℕ, zero, suc, ◌≤◌, ◌≡◌, Result, Ok, Err, MatchResult, length, take}
 use Rattle.log_numbers.specs.declared.Reason.{Reason}
 use Rattle.log_numbers.specs.declared.Reason.TheVariants as reason
 use Rattle.log_numbers.specs.Takes as takes
@@ -40,10 +40,15 @@ rule_of Word = word
 rule_of ByFirst = value 0
 rule_of BySecond = value 1
 
--- of a field that may not be there
-abbrev pub rule_in : Option Field → entries.Field
-rule_in (Some field) = rule_of field
-rule_in None = none
+-- a field's rule as a number
+unfoldable pub code_of : entries.Field → ℕ
+code_of none = 0
+code_of any_number = 1
+code_of flag = 2
+code_of word = 3
+code_of (value zero) = 4
+code_of (value (suc zero)) = 5
+code_of (value (suc (suc i))) = 6
 
 -- what a number made of an entry that had `count` numbers
 abbrev pub entered_of : ℕ → Result Entered Reason → entries.Entered

@@ -3,7 +3,7 @@
 
 ghost use Rattle.std.specs.Prelude.{◌≡◌, suc, ◌-◌, ◌^◌, ◌≤◌, ◌<◌, cond, eqb, ltb, [], ◌∷◌, get_or, length, map, set, take};
 ghost use Rattle.log_entries.specs.Entries.{none, fields_of, fields_by_kind, most, number_in, entry_words, entry_from, five_of, words_of, six_of};
-ghost use Rattle.log_entries.specs.Enters.{number_of, rule_of, rule_in, IsKindOf, entered_of, EnteredFits};
+ghost use Rattle.log_entries.specs.Enters.{number_of, rule_of, code_of, IsKindOf, entered_of, EnteredFits};
 
 use log_numbers::Reason;
 
@@ -202,15 +202,55 @@ pub fn most_value(store: u64) -> u64
     if store == 0 { 0 } else { WORD_MOST }
 }
 
-// What field number `i` of a kind may be, if there is one.
-fn field_of(kind: u64, i: usize) -> Option<Field>
-    requires { (1 ≤ i) × (i ≤ 5) }
-    ensures { rule_in result ≡ get_or (fields_of kind) (i - 1) none }
+// What a field may be, as a number of the table below: `Field`'s, and none.
+const NO: u8 = 0;
+
+const ANY: u8 = 1;
+
+const FLAG: u8 = 2;
+
+const WORD: u8 = 3;
+
+const BY_FIRST: u8 = 4;
+
+const BY_SECOND: u8 = 5;
+
+// The five fields of each kind, by rising kind: what `Kind::fields` says, where the reader finds it in one step.
+const FIELDS: [u8; 65] = [
+    // the header: F, U, P, L
+    ANY, ANY, ANY, ANY, NO,
+    // user access: process, load or store, width, effective address, value
+    ANY, FLAG, WORD, WORD, BY_SECOND,
+    // supervisor access: load or store, width, global address, value
+    FLAG, WORD, ANY, BY_FIRST, NO,
+    // attach: process, slot, segment, write bit
+    ANY, ANY, ANY, FLAG, NO,
+    // detach: process, slot
+    ANY, ANY, NO, NO, NO,
+    // map: page, frame, write bit
+    ANY, ANY, FLAG, NO, NO,
+    // unmap: page
+    ANY, NO, NO, NO, NO,
+    // protect: page, write bit
+    ANY, FLAG, NO, NO, NO,
+    // flush all
+    NO, NO, NO, NO, NO,
+    // tag: line name
+    ANY, NO, NO, NO, NO,
+    // load-and-map: physical line
+    ANY, NO, NO, NO, NO,
+    // drop tag
+    NO, NO, NO, NO, NO,
+    // move: page, new page
+    ANY, ANY, NO, NO, NO,
+];
+
+// What field number `i` of a kind may be.
+fn code_of(kind: u64, i: usize) -> u8
+    requires { (kind < length fields_by_kind) × (1 ≤ i) × (i ≤ 5) }
+    ensures { result ≡ code_of (get_or (fields_of kind) (i - 1) none) }
 {
-    match Kind::try_from(kind) {
-        Ok(known) => known.fields().get(i - 1).copied(),
-        Err(_) => None,
-    }
+    FIELDS[MOST_FIELDS * kind as usize + i - 1]
 }
 
 // The most that field number `i` of an entry may be, after those before it.
@@ -218,14 +258,23 @@ pub fn most_of(e: Entry, i: usize) -> u64
     requires { (e.kind < length fields_by_kind) × (1 ≤ i) × (i ≤ 5) }
     ensures { result ≡ most e.kind (take (i - 1) (five_of e)) }
 {
-    match field_of(e.kind, i) {
-        Some(Field::Any) => u64::MAX,
-        Some(Field::Flag) => 1,
-        Some(Field::Word) => WORD_MOST,
-        Some(Field::ByFirst) => most_value(e.fields[0]),
-        Some(Field::BySecond) => most_value(e.fields[1]),
-        None => 0,
+    let code = code_of(e.kind, i);
+    if code == ANY {
+        return u64::MAX;
     }
+    if code == FLAG {
+        return 1;
+    }
+    if code == WORD {
+        return WORD_MOST;
+    }
+    if code == BY_FIRST {
+        return most_value(e.fields[0]);
+    }
+    if code == BY_SECOND {
+        return most_value(e.fields[1]);
+    }
+    0
 }
 
 // A number as a kind.

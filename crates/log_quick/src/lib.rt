@@ -2,7 +2,7 @@
 // by byte.
 #![tactic(auto)]
 
-ghost use Rattle.std.specs.Prelude.{◌≡◌, ◌+◌, ◌≤◌, length};
+ghost use Rattle.std.specs.Prelude.{◌≡◌, ◌+◌, ◌≤◌, get_or, length};
 ghost use Rattle.log_quick.specs.Quick.{NumberAt, Ended, UserIsAt};
 
 use log_entries::{Kind, WORD_MOST, most_value};
@@ -39,7 +39,8 @@ fn ended(last: u64, value: u64, count: usize) -> Option<Number>
     Some(Number { value, count })
 }
 
-// The number of at most five bytes from `from` on, if it is plain. Read byte after byte and not by a loop: the reader's speed rests on it.
+// The number of at most five bytes from `from` on, if it is plain. Read byte after byte and not by a loop: the reader's speed rests on it,
+// and on its being inline: an `Option` of two words would come back through memory.
 #[inline(always)]
 fn number_at(piece: &[u8], from: usize) -> Option<Number>
     requires { from + 5 ≤ length piece.now }
@@ -76,14 +77,12 @@ fn number_at(piece: &[u8], from: usize) -> Option<Number>
     None
 }
 
-// The user access from `from` on, if it is plain.
-pub fn user_at(piece: &[u8], from: usize) -> Option<UserAt>
-    requires { from + 18 ≤ length piece.now }
+// The user access from `from` on, where its kind stands, if it is plain. Not inline: it would take the registers of what is read byte by byte.
+#[inline(never)]
+fn fields_at(piece: &[u8], from: usize) -> Option<UserAt>
+    requires { (from + 18 ≤ length piece.now) × (get_or piece.now from 0 ≡ 1) }
     ensures { UserIsAt piece.now from result }
 {
-    if u64::from(piece[from]) != Kind::UserAccess as u64 {
-        return None;
-    }
     let p = number_at(piece, from + 1)?;
     let flags = from + 1 + p.count;
     let store = u64::from(piece[flags]);
@@ -101,4 +100,15 @@ pub fn user_at(piece: &[u8], from: usize) -> Option<UserAt>
         });
     }
     None
+}
+
+// The user access from `from` on, if it is plain.
+pub fn user_at(piece: &[u8], from: usize) -> Option<UserAt>
+    requires { from + 18 ≤ length piece.now }
+    ensures { UserIsAt piece.now from result }
+{
+    if u64::from(piece[from]) != Kind::UserAccess as u64 {
+        return None;
+    }
+    fields_at(piece, from)
 }
